@@ -1,0 +1,12 @@
+pub mod Below
+pub mod Bits
+pub mod Forms
+pub mod Consequences
+pub mod Groups
+pub mod AsilLaws
+pub mod Narrow
+pub mod Cover
+pub mod Options
+pub mod DalLaws
+pub mod Spellings
+pub mod StandardWords
