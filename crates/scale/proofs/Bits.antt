@@ -1,17 +1,21 @@
 -- The bits of a row. Assumes nothing.
 use mathlib.Core.Path.{_≡_, refl, sym, ap, subst, _∙_}
 use mathlib.Core.Bool.{Bool, true, false, _&&_, _||_, not, cond}
-use mathlib.Core.Logic.{⊎-elim}
+use mathlib.Core.List.{List}
+use mathlib.Core.Logic.{_⊎_, inl, inr, ⊎-elim}
 use Prim.Native.Nat.{ℕ, zero, suc, _+_, _*_, _/_, _%_, _^_, _≤_, _<_}
 use native.Mathlib.Omega.{arith}
-use native.Mathlib.Nat.{one-mul}
+use native.Mathlib.Nat.{one-mul, div-eq-of-lt}
 use lib.Bits.{bitAnd, bitOr}
 use lib.Dec.{eqb, ltb}
+use lib.ListN.{length, getD}
+use Rattle.std.proofs.shelf.Lists.{getD-past}
+use lib.Pow.{pow-mono}
 use Rattle.std.specs.Orderings.{Decides}
 use Rattle.std.proofs.shelf.Tests.{not-true, not-from-false, both-ways, cases-eq, cases-bool, eqb-true, eq-eqb, ne-eqb, lt-ltb, le-ltb, and-left, and-right, and-from, and-parts, or-left, or-right, or-cases}
 use Rattle.std.proofs.shelf.Bits.{and-shr, or-shr, and-mod, or-mod, and-mask, mod-below, or-comm, or-shifted, pow-pos, pow-add, and-le-l}
 use Rattle.std.proofs.shelf.Ways.{tells, same-from-decides, decides-like, decides-and, decides-eqb}
-use Rattle.scale.specs.Question.{bit}
+use Rattle.scale.specs.Question.{bit, apart}
 use Rattle.scale.specs.Rows.{all-below, row-of, has-all}
 use Rattle.scale.proofs.Below.{all-below-at, all-decides, decides-itself}
 
@@ -97,6 +101,7 @@ row-more p n k hn hk = ⊎-elim
     and-true : (b : Bool) → (b && true) ≡ b
     and-true true = refl
     and-true false = refl
+
     and-none : (b : Bool) → (b && false) ≡ false
     and-none true = refl
     and-none false = refl
@@ -118,6 +123,7 @@ bit-row-of p (suc n) k hn hk =
     or-none : (b : Bool) → (b || false) ≡ b
     or-none true = refl
     or-none false = refl
+
     one-more : (k ≡ n → ⊥) → ltb k n ≡ ltb k (suc n)
     one-more differ = grind (arith, tells)
 
@@ -177,3 +183,18 @@ has-all-masked row other hr ho =
         (λ (t : bit other k ≡ true). and-from (bit row k) (bit other k) (h k less t) t ∙ sym t)
         (λ (t : bit other k ≡ false). and-right (bit row k) (bit other k) t ∙ sym t)
         (cases-bool (bit other k))
+
+-- a byte has no bit past the eighth
+pub bit-past : (row j : ℕ) → row < 256 → 8 ≤ j → bit row j ≡ false
+bit-past row j hr hj =
+    let wide : 2 ^ 8 ≤ 2 ^ j = pow-mono hj in
+    let none : row / 2 ^ j ≡ 0 = div-eq-of-lt (omega arith) in
+    ap (λ n. eqb (n % 2) 1) none
+
+-- a member that has no row is apart from nobody
+bit-zero : (j : ℕ) → bit 0 j ≡ false
+bit-zero j = let none : 0 / 2 ^ j ≡ 0 = div-eq-of-lt (pow-pos j) in ap (λ n. eqb (n % 2) 1) none
+
+pub apart-past : (rows : List ℕ) (i j : ℕ) → (length rows ≤ i) ⊎ (length rows ≤ j) → apart rows i j ≡ false
+apart-past rows i j (inl past) = and-left (bit (getD rows i 0) j) (bit (getD rows j 0) i) (ap (λ row. bit row j) (getD-past rows i 0 past) ∙ bit-zero j)
+apart-past rows i j (inr past) = and-right (bit (getD rows i 0) j) (bit (getD rows j 0) i) (ap (λ row. bit row i) (getD-past rows j 0 past) ∙ bit-zero i)

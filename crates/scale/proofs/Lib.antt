@@ -1,12 +1,5 @@
 pub mod Below
 pub mod Bits
 pub mod Forms
+pub mod Levels
 pub mod Consequences
-pub mod Groups
-pub mod AsilLaws
-pub mod Narrow
-pub mod Cover
-pub mod Options
-pub mod DalLaws
-pub mod Spellings
-pub mod StandardWords

@@ -1,9 +1,3 @@
 pub mod Question
 pub mod Rows
-pub mod Asil
-pub mod Patterns
-pub mod Dal
-pub mod Letters
 pub mod Sides
-pub mod Standards
-pub mod Reference

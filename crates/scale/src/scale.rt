@@ -18,5 +18,4 @@ pub trait Scale {
 // Under every scale a well-formed question that requires level 0 is met.
 pub fn zero_is_met<S: Scale>(scale: &S)
     ensures { λ _. ⌜ Zero-met (S·Scale .means (now (scale .entry))) ⌝ }
-{
-}
+{}

@@ -1,0 +1,4 @@
+pub mod GroupTests
+pub mod Laws
+pub mod Narrow
+pub mod Cover

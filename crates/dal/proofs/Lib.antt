@@ -1,0 +1,2 @@
+pub mod OptionTests
+pub mod Laws

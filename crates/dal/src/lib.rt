@@ -1,0 +1,3 @@
+// The avionics scale of integrity levels (DAL).
+
+pub mod options;

@@ -1,6 +1,0 @@
-use mathlib.Core.Path.{refl}
-use Rattle.scale.proofs.Cover.{covers-by-tests, met-by-patterns}
-use Rattle.scale.proofs.patterns.patterns.Needs as need
-
-pub returns : need.returns
-returns c = record { rows = refl; covers = covers-by-tests _ refl refl; met = met-by-patterns _ (covers-by-tests _ refl refl) }
