@@ -1,0 +1,11 @@
+pub mod Rows
+pub mod Order
+pub mod Remaining
+pub mod Sets
+pub mod Costs
+pub mod Kept
+pub mod Listing
+pub mod Exactness
+pub mod Soundness
+pub mod CallsRight
+pub mod HistoriesRight

@@ -1,0 +1,9 @@
+pub mod Model
+pub mod Edits
+pub mod Allocations
+pub mod Walks
+pub mod Calls
+pub mod Partials
+pub mod Promise
+pub mod Histories
+pub mod Reference
