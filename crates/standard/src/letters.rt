@@ -7,11 +7,11 @@ use dal::options::DalScale;
 use either::Either;
 use scale::one_of_two::EitherScale;
 use scale::scale::Scale;
+use text::words::same;
 ghost use mathlib.Core.Path.{_≡_};
 ghost use mathlib.Core.List.{List, [], _∷_};
 ghost use denote.Ref.{now};
 ghost use Rattle.std.specs.Options.{mapped};
-ghost use Rattle.std.specs.shelf.Text.{sameBytes};
 ghost use Rattle.scale.specs.Sides.{by-side};
 ghost use Rattle.standard.specs.Letters.{Word, Spelling, printed, read-level, asil-names, dal-names};
 
@@ -29,13 +29,6 @@ pub trait LevelNames: Scale {
     // The level that a word names, or none.
     fn level(&self, word: &[u8]) -> Option<u8>
         ensures { λ r. ⌜ r ≡ read-level (names (now (self .entry))) (now (word .entry)) ⌝ };
-}
-
-// Whether a word is this text.
-pub(crate) fn same(word: &[u8], text: &[u8]) -> bool
-    ensures { λ r. ⌜ r ≡ sameBytes (now (word .entry)) (now (text .entry)) ⌝ }
-{
-    word == text
 }
 
 fn asil_letter(letter: char) -> Option<u8>

@@ -1,9 +1,9 @@
 // The scales of the two standards, by the words that name them.
 
-use crate::letters::same;
 use asil::groups::Asil;
 use dal::options::Dal;
 use either::Either;
+use text::words::same;
 ghost use mathlib.Core.Path.{_≡_};
 ghost use Rattle.standard.specs.Standards.{standard-of, standard-word, Words-inverse};
 

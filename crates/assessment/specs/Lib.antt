@@ -1,0 +1,4 @@
+pub mod Scales
+pub mod Question
+pub mod Reading
+pub mod Texts
