@@ -25,6 +25,8 @@ pub mod total;
 pub mod words;
 
 // The text of an amount.
+pub mod text;
+
+// Each rule on a table worked by hand.
 #[cfg(test)]
 mod tests;
-pub mod text;

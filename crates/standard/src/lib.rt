@@ -1,5 +1,10 @@
 // The two standards' scales as programs meet them: by their words, with letters for their levels, and with known answers.
 
+// The letters of the levels.
 pub mod letters;
-pub mod reference;
+
+// The words that name the scales.
 pub mod words;
+
+// Questions with known answers.
+pub mod reference;
