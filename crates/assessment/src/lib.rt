@@ -1,4 +1,5 @@
 // What one line of input is answered with.
+#![tactic(auto)]
 
 mod question;
 mod reading;

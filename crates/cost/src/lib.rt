@@ -1,4 +1,5 @@
 // What a plan costs: quotes, the rules that join them to an amount, and each rule's word and text.
+#![tactic(auto)]
 
 // A price and the weeks that the work takes.
 pub mod quote;

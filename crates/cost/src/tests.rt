@@ -8,7 +8,7 @@ use crate::sum::*;
 use crate::text::*;
 use crate::total::*;
 use crate::words::*;
-use either::Either;
+use two_kinds::Either;
 use std::test::Fail;
 
 // Two quotes, each a price and weeks; then their cost under `sum`, `dearest` and `staged`.

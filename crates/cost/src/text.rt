@@ -6,7 +6,7 @@ use crate::dearest::Dearest;
 use crate::rule::CostRule;
 use crate::staged::Staged;
 use crate::sum::Sum;
-use either::Either;
+use two_kinds::Either;
 use std::alloc::{AllocError, Global};
 
 // Rules whose amounts can be printed.

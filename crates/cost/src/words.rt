@@ -7,7 +7,7 @@ use crate::dearest::Dearest;
 use crate::rule::CostRule;
 use crate::staged::Staged;
 use crate::sum::Sum;
-use either::Either;
+use two_kinds::Either;
 
 // Rules that a sheet can name, no two by one word.
 pub trait RuleWord: CostRule {

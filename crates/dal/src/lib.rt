@@ -1,3 +1,4 @@
 // The avionics scale of integrity levels (DAL).
+#![tactic(auto)]
 
 pub mod options;

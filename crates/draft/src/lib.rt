@@ -1,4 +1,5 @@
 // A project being edited: its parts, which of them are apart, and its cut sets.
+#![tactic(auto)]
 
 // The parts, in the order of their numbers.
 mod parts;

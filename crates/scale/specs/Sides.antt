@@ -1,6 +1,6 @@
 -- A scale of either of two kinds. Assumes nothing.
-use Rattle.either.specs.declared.Either.{Either}
-use Rattle.either.specs.declared.Either.TheVariants.{Left, Right}
+use Rattle.two_kinds.specs.declared.Either.{Either}
+use Rattle.two_kinds.specs.declared.Either.TheVariants.{Left, Right}
 
 module _ {A B M : Type 0} where
   -- what a value of either kind means by its own kind

@@ -1,4 +1,5 @@
 // What "met" means: whether the levels of a cut set's members meet the level that the set requires.
+#![tactic(auto)]
 
 // What a scale is asked, and which questions are well-formed.
 pub mod question;

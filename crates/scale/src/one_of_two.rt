@@ -5,7 +5,7 @@ ghost use Rattle.scale.specs.Sides.{by_side};
 ghost use Rattle.std.proofs.Common.{rules};
 
 use crate::scale::Scale;
-use either::Either;
+use two_kinds::Either;
 
 impl<A: Scale, B: Scale> Scale for Either<A, B> {
     ghost means = { by_side A.Scale.means B.Scale.means };

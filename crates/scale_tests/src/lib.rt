@@ -1,10 +1,11 @@
 // Questions worked by hand, put to the scales through their public calls.
+#![tactic(auto)]
 
 #[cfg(test)]
 mod tests {
     use asil::groups::Asil;
     use dal::options::Dal;
-    use either::Either;
+    use two_kinds::Either;
     use scale::scale::Scale;
     use standard::letters::LevelNames;
     use standard::words::{Standard, standard, word};

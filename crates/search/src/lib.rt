@@ -1,4 +1,5 @@
 // The search of a draft: the walk step by step, as code, for any scale and any cost rule.
+#![tactic(auto)]
 
 // The levels that the search is at.
 mod path;

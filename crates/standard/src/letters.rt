@@ -9,7 +9,7 @@ ghost use Rattle.std.proofs.Common.{rules};
 
 use asil::groups::Asil;
 use dal::options::Dal;
-use either::Either;
+use two_kinds::Either;
 use scale::scale::Scale;
 use text::words::same;
 

@@ -1,4 +1,5 @@
 // The two standards' scales as programs meet them: by their words, with letters for their levels, and with known answers.
+#![tactic(auto)]
 
 // The letters of the levels.
 pub mod letters;

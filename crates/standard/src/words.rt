@@ -5,7 +5,7 @@ ghost use Rattle.standard.specs.Standards.{standard_of, standard_word, WordsInve
 
 use asil::groups::Asil;
 use dal::options::Dal;
-use either::Either;
+use two_kinds::Either;
 use text::words::same;
 
 pub type Standard = Either<Asil, Dal>;

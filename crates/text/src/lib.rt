@@ -1,3 +1,4 @@
 // The words of a line.
+#![tactic(auto)]
 
 pub mod words;

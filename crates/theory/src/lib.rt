@@ -1,4 +1,5 @@
 // What a project and its search mean, and why the search is exact: definitions and theorems, before any call of them.
+#![tactic(auto)]
 
 // A part, with its range and its quotes.
 pub mod part;
