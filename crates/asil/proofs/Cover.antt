@@ -1,8 +1,8 @@
 -- What can be split by a table whose rows are all the sums up to 4. Assumes nothing.
-use Rattle.std.proofs.Common.{◌≡◌, ℕ, zero, suc, ◌+◌, ◌-◌, ◌<◌, ◌≤◌, min, Bool, true, false, ◌&&◌, ◌||◌, eqb, ◌⊎◌, List, [], ◌∷◌, ◌++◌, length, Decides, sym, refl, ap, ◌∙◌, subst, inl, inr, ⊎_elim, arith}
-use Rattle.std.specs.List.{AllZip, ContainsAt as Has, AllByRecursion as All}
+use Rattle.std.proofs.Common.{◌≡◌, ℕ, suc, ◌+◌, ◌-◌, ◌<◌, ◌≤◌, min, Bool, true, false, ◌&&◌, ◌||◌, eqb, List, [], ◌∷◌, ◌++◌, length, Decides, refl, ap, ◌∙◌, inl, inr, ⊎_elim, arith}
+use Rattle.std.specs.List.{AllZip, ContainsAt, AllByRecursion}
 use Rattle.std.proofs.ByRecursion.{all-has}
-use Rattle.std.proofs.lemmas.Bool.{eqb-true, eq-eqb, and_parts, and_from, or_cases, cases_lt}
+use Rattle.std.proofs.lemmas.Bool.{eqb-true, eq-eqb, and_parts, and_from, or_cases}
 use Rattle.std.proofs.lemmas.Bool.Decides.{Decides-by_or, Decides-like}
 use Rattle.asil.specs.Groups.{total, chosen, Group, asil_test}
 use Rattle.scale.specs.Question.{formed, answer}
@@ -14,7 +14,7 @@ use Rattle.asil.specs.Patterns.{Row, Allows, Split, at, Splits, none, more, Cove
 
 -- each row is a sum
 abbrev pub Sums : List Row → Type 0
-Sums rows = All (λ p. p.0 ≡ p.1 + p.2) rows
+Sums rows = AllByRecursion (λ p. p.0 ≡ p.1 + p.2) rows
 
 -- and each sum up to 4 is a row, in one order or the other
 abbrev pub EverySum : List Row → Type 0
@@ -104,7 +104,7 @@ is_row_decides x a b p = (
       (eq-eqb p.2 b (ap (λ (q : Row). q.2) e))),
 )
 
-has_row_decides : (x a b : ℕ) (ps : List Row) → Decides (has_row x a b ps) (Has ps (x, a, b))
+has_row_decides : (x a b : ℕ) (ps : List Row) → Decides (has_row x a b ps) (ContainsAt ps (x, a, b))
 has_row_decides x a b = Decides-by_or (is_row x a b) (λ p. p ≡ (x, a, b)) (has_row x a b) (is_row_decides x a b) refl (λ _ _. refl)
 
 abbrev every_test : List Row → Bool

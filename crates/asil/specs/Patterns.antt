@@ -1,6 +1,6 @@
 -- The decomposition patterns, what can be split by them, and how they agree with the automotive scale. Assumes nothing.
 use Rattle.std.specs.Prelude.{◌≡◌, ℕ, ◌<◌, ◌≤◌, Bool, true, ◌⊎◌, List, [], ◌∷◌, ◌++◌, length, Decides}
-use Rattle.std.specs.List.{AllZip, ContainsAt as Has}
+use Rattle.std.specs.List.{AllZip, ContainsAt}
 use Rattle.scale.specs.Question.{formed, answer}
 use Rattle.asil.specs.Groups.{total, chosen, Group, asil_test}
 
@@ -14,7 +14,7 @@ nine_rows = (4, 4, 0) ∷ (4, 3, 1) ∷ (4, 2, 2) ∷ (3, 3, 0) ∷ (3, 2, 1) �
 
 -- a pattern of the table is usable in either order
 abbrev pub Allows : List Row → ℕ → ℕ → ℕ → Type 0
-Allows table required first second = Has table (required, first, second) ⊎ Has table (required, second, first)
+Allows table required first second = ContainsAt table (required, first, second) ⊎ ContainsAt table (required, second, first)
 
 -- one entry of a list, at any place, is split by a pattern
 pub data Split (table : List Row) : List ℕ → List ℕ → Type 0 where

@@ -1,7 +1,7 @@
 -- The line of a well-formed question is read as that question, and no other line is read so. Assumes nothing.
 use Rattle.std.proofs.Common.{◌≡◌, ℕ, zero, suc, ◌+◌, ◌<◌, ◌≤◌, Bool, true, false, cond, ◌&&◌, ltb, leb, List, [], ◌∷◌, ◌++◌, map, length, Some, None, codes, sym, refl, ap, ◌∙◌, subst, arith}
 use Rattle.two_kinds.specs.declared.Either.TheVariants.{Left, Right}
-use Rattle.std.specs.List.{AllByRecursion as All}
+use Rattle.std.specs.List.{AllByRecursion}
 use Rattle.std.specs.Str.{bytes_eq}
 use Rattle.std.proofs.ByRecursion.{All-append, All-map, All-weaker}
 use Rattle.std.proofs.lemmas.Slice.Eq.{bytes_eq-Decides}
@@ -19,26 +19,26 @@ use Rattle.assessment.proofs.Asking.{by_pairs, by_members, by_required, by_stand
 use Rattle.assessment.proofs.Words.{some_none, and_then_only, passed, each_back, each_only, spelling_of, named, levels, TwoOf, pairs_of}
 
 -- the name of a level is one or more capital letters
-plain_name : (names : List Word) (level : ℕ) (w : Word) → All (λ name. (0 < length name) × All Capital name) names → printed names level ≡ Some w → (0 < length w) × All Capital w
+plain_name : (names : List Word) (level : ℕ) (w : Word) → AllByRecursion (λ name. (0 < length name) × AllByRecursion Capital name) names → printed names level ≡ Some w → (0 < length w) × AllByRecursion Capital w
 plain_name [] level w h e = absurd (some_none w e)
 plain_name (name ∷ names) zero w h e =
     let is : name ≡ w = cc in
-    subst (λ v. (0 < length v) × All Capital v) is h.0
+    subst (λ v. (0 < length v) × AllByRecursion Capital v) is h.0
 plain_name (name ∷ names) (suc level) w h e = plain_name names level w h.1 e
 
-plain : (standard : Standard) (level : ℕ) → level ≤ 4 → (0 < length (level_word standard level)) × All Capital (level_word standard level)
+plain : (standard : Standard) (level : ℕ) → level ≤ 4 → (0 < length (level_word standard level)) × AllByRecursion Capital (level_word standard level)
 plain standard level h = plain_name (level_names standard) level (level_word standard level) (spelling_of standard).plain (named standard level h)
 
-capitals_lack : (w : Word) → All Capital w → Lacks 32 w
+capitals_lack : (w : Word) → AllByRecursion Capital w → Lacks 32 w
 capitals_lack [] h = tt
 capitals_lack (c ∷ cs) h = let low = h.0.0 in (ne_eqb c 32 (λ e. omega arith), capitals_lack cs h.1)
 
-no_slash : (w : Word) → 0 < length w → All Capital w → bytes_eq w (codes "/") ≡ false
+no_slash : (w : Word) → 0 < length w → AllByRecursion Capital w → bytes_eq w (codes "/") ≡ false
 no_slash [] some h = absurd (omega arith)
 no_slash (c ∷ cs) some h = sym (false_from (bytes_eq (c ∷ cs) (codes "/")) (bytes_eq-Decides (c ∷ cs) (codes "/")) (λ e. let is : c ≡ 47 = cc in let low = h.0.0 in omega arith))
 
 -- the members and the slash
-slash_back : (standard : Standard) (members : List ℕ) (ws : List Word) → All (λ level. level ≤ 4) members → up_to_slash (level_names standard) (map (level_word standard) members ++ codes "/" ∷ ws) ≡ Some (members, ws)
+slash_back : (standard : Standard) (members : List ℕ) (ws : List Word) → AllByRecursion (λ level. level ≤ 4) members → up_to_slash (level_names standard) (map (level_word standard) members ++ codes "/" ∷ ws) ≡ Some (members, ws)
 slash_back standard [] ws h = refl
 slash_back standard (l ∷ ls) ws h =
     let p = plain standard l h.0 in
@@ -50,7 +50,7 @@ slash_back standard (l ∷ ls) ws h =
 -- what was found before the slash and after it
 record CutAtSlash (standard : Standard) (ws : List Word) (found : List ℕ × List Word) : Type 0 where
   pub is : map (level_word standard) found.0 ++ codes "/" ∷ found.1 ≡ ws
-  pub fit : All (λ level. level ≤ 4) found.0
+  pub fit : AllByRecursion (λ level. level ≤ 4) found.0
 
 module _ (standard : Standard) (w : Word) (ws : List Word) (found : List ℕ × List Word) where
   slash_here : (t : Bool) → bytes_eq w (codes "/") ≡ t → cond t (Some ([], ws)) (and_then (read_level (level_names standard) w) (λ level. and_then (up_to_slash (level_names standard) ws) (λ found. Some (level ∷ found.0, found.1)))) ≡ Some found → ((f : List ℕ × List Word) → up_to_slash (level_names standard) ws ≡ Some f → CutAtSlash standard ws f) → CutAtSlash standard (w ∷ ws) found
@@ -123,7 +123,7 @@ level_lacks standard level h = capitals_lack (level_word standard level) (plain 
 pair_lacks : (pair : Pair) → Lacks 32 (pair_word pair)
 pair_lacks pair = (ne_eqb (48 + pair.0) 32 (λ e. omega arith), (refl, (ne_eqb (48 + pair.1) 32 (λ e. omega arith), tt)))
 
-words_lack : (q : Question) → WellFormed q → All (Lacks 32) (words q)
+words_lack : (q : Question) → WellFormed q → AllByRecursion (Lacks 32) (words q)
 words_lack q h =
     let st = q.standard in (
       standard_lacks st,

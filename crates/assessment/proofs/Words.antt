@@ -1,7 +1,7 @@
 -- What each word is written as is read back, and no other word is read so. Assumes nothing.
 use Rattle.std.proofs.Common.{◌≡◌, ℕ, ◌+◌, ◌-◌, ◌<◌, ◌≤◌, Bool, true, false, cond, ◌&&◌, eqb, ltb, leb, List, [], ◌∷◌, map, is_some, Some, None, Option, unwrap_or, sym, refl, ap, ◌∙◌, subst, arith}
 use Rattle.two_kinds.specs.declared.Either.TheVariants.{Left, Right}
-use Rattle.std.specs.List.{AllByRecursion as All}
+use Rattle.std.specs.List.{AllByRecursion}
 use Rattle.std.proofs.lemmas.Bool.{and_parts, and_from, leb-true, le-leb, ltb-true, lt-ltb, eqb-true, eqb-false, ne_eqb}
 use Rattle.standard.specs.Letters.{printed, read_level, Spelling}
 use Rattle.standard.specs.Standards.{Standard}
@@ -39,23 +39,23 @@ pub record Inverse {T : Type 0} (read : Word → Option T) (write : T → Word) 
   pub only : (w : Word) (x : T) → read w ≡ Some x → (write x ≡ w) × Fit x
 
 -- the same for every word of a list
-pub each_back : {T : Type 0} {read : Word → Option T} {write : T → Word} {Fit : T → Type 0} → Inverse read write Fit → (xs : List T) → All Fit xs → each read (map write xs) ≡ Some xs
+pub each_back : {T : Type 0} {read : Word → Option T} {write : T → Word} {Fit : T → Type 0} → Inverse read write Fit → (xs : List T) → AllByRecursion Fit xs → each read (map write xs) ≡ Some xs
 each_back inverse [] fit = refl
 each_back {T} {read} {write} inverse (x ∷ xs) fit =
     ap (λ o. and_then o (λ y. and_then (each read (map write xs)) (λ ys. Some (y ∷ ys)))) (inverse.back x fit.0)
     ∙ ap (λ o. and_then o (λ ys. Some (x ∷ ys))) (each_back inverse xs fit.1)
 
-pub each_only : {T : Type 0} {read : Word → Option T} {write : T → Word} {Fit : T → Type 0} → Inverse read write Fit → (ws : List Word) (xs : List T) → each read ws ≡ Some xs → (map write xs ≡ ws) × All Fit xs
+pub each_only : {T : Type 0} {read : Word → Option T} {write : T → Word} {Fit : T → Type 0} → Inverse read write Fit → (ws : List Word) (xs : List T) → each read ws ≡ Some xs → (map write xs ≡ ws) × AllByRecursion Fit xs
 each_only {T} {read} {write} {Fit} inverse [] xs e =
     let none : [] ≡ xs = cc in
-    subst (λ ys. (map write ys ≡ []) × All Fit ys) none (refl, tt)
+    subst (λ ys. (map write ys ≡ []) × AllByRecursion Fit ys) none (refl, tt)
 each_only {T} {read} {write} {Fit} inverse (w ∷ ws) xs e =
     let a = and_then_only (read w) (λ y. and_then (each read ws) (λ ys. Some (y ∷ ys))) xs e in
     let b = and_then_only (each read ws) (λ ys. Some (a.value ∷ ys)) xs a.more in
     let first = inverse.only w a.value a.was in
     let rest = each_only inverse ws b.value b.was in
     let is : a.value ∷ b.value ≡ xs = cc b.more in
-    subst (λ ys. (map write ys ≡ w ∷ ws) × All Fit ys) is ((λ i. first.0 i ∷ rest.0 i), (first.1, rest.1))
+    subst (λ ys. (map write ys ≡ w ∷ ws) × AllByRecursion Fit ys) is ((λ i. first.0 i ∷ rest.0 i), (first.1, rest.1))
 
 -- levels
 pub spelling_of : (standard : Standard) → Spelling (level_names standard)

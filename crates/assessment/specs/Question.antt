@@ -1,7 +1,7 @@
 -- A question in the words of the format, the line that writes it, and what a line asks. Assumes nothing.
 use Rattle.std.specs.Prelude.{◌≡◌, ℕ, ◌+◌, ◌<◌, ◌≤◌, Bool, ◌⊎◌, List, [], ◌∷◌, ◌++◌, map, length, codes, Decides, ◌≢◌, slice_index}
 use Rattle.std.specs.Option.{unwrap_or}
-use Rattle.std.specs.List.{ContainsAt as Has, AllByRecursion as All}
+use Rattle.std.specs.List.{ContainsAt, AllByRecursion}
 use Rattle.standard.specs.Letters.{printed}
 use Rattle.scale.specs.Question.{bit, answer}
 use Rattle.standard.specs.Standards.{Standard, standard_word}
@@ -26,10 +26,10 @@ pub record Question : Type 0 where
 -- levels up to 4, one to eight members, and each pair two different members
 pub record WellFormed (question : Question) : Type 0 where
   pub top : question.required ≤ 4
-  pub levels : All (λ level. level ≤ 4) question.members
+  pub levels : AllByRecursion (λ level. level ≤ 4) question.members
   pub some : 0 < length question.members
   pub few : length question.members ≤ 8
-  pub different : All (λ pair. (pair.0 < length question.members) × (pair.1 < length question.members) × (pair.0 ≢ pair.1)) question.pairs
+  pub different : AllByRecursion (λ pair. (pair.0 < length question.members) × (pair.1 < length question.members) × (pair.0 ≢ pair.1)) question.pairs
 
 -- the name of a level, which every level up to 4 has
 abbrev pub level_word : Standard → ℕ → Word
@@ -55,7 +55,7 @@ render question = unwords (words question)
 
 -- members i and k are declared independent, in either order
 abbrev pub Declared : List Pair → ℕ → ℕ → Type 0
-Declared pairs i k = Has pairs (i, k) ⊎ Has pairs (k, i)
+Declared pairs i k = ContainsAt pairs (i, k) ⊎ ContainsAt pairs (k, i)
 
 -- a row of eight bits for each of n members, where bit k of row i is set exactly when i and k are declared independent
 pub record Declares (pairs : List Pair) (n : ℕ) (rows : List ℕ) : Type 0 where

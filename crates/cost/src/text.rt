@@ -6,8 +6,8 @@ use crate::dearest::Dearest;
 use crate::rule::CostRule;
 use crate::staged::Staged;
 use crate::sum::Sum;
-use two_kinds::Either;
 use std::alloc::{AllocError, Global};
+use two_kinds::Either;
 
 // Rules whose amounts can be printed.
 pub trait AmountText: CostRule {

@@ -1,7 +1,7 @@
 -- Raise, Reach and Bottom of the avionics scale. Assumes nothing.
-use Rattle.std.specs.Prelude.{◌≡◌, ℕ, zero, suc, ◌<◌, ◌≤◌, true, false, ◌⊎◌, List, [], ◌∷◌, length, slice_index, slice_index_or}
+use Rattle.std.specs.Prelude.{◌≡◌, ℕ, zero, suc, ◌<◌, ◌≤◌, true, false, ◌⊎◌, List, length, slice_index, slice_index_or}
 use Rattle.std.proofs.Common.{inl, inr, ⊎_elim, arith}
-use Rattle.std.specs.List.{AllZip, AllByRecursion as All}
+use Rattle.std.specs.List.{AllZip, AllByRecursion}
 use Rattle.std.proofs.ByRecursion.{All-get_or}
 use Rattle.std.proofs.lemmas.Bool.{cases_Bool}
 use Rattle.scale.specs.Question.{Laws}
@@ -45,12 +45,12 @@ module _ (levels higher rows : List ℕ) (rise : AllZip (λ low high. low ≤ hi
   rises (suc (suc (suc (suc (suc _))))) s = s
 
 module _ (levels rows : List ℕ) (some : 0 < length levels) where
-  full_reached : (full low : ℕ) → low ≤ full → All (λ level. full ≤ level) levels → Full levels full low
+  full_reached : (full low : ℕ) → low ≤ full → AllByRecursion (λ level. full ≤ level) levels → Full levels full low
   full_reached full low below h =
       let at : (k : ℕ) → k < length levels → full ≤ slice_index_or levels k 0 = λ k less. All-get_or (λ level. full ≤ level) levels k 0 less h in
       (0, some, at 0 some, λ k less differ. omega (arith, at k less))
 
-  reached : (required : ℕ) → required ≤ 4 → All (λ level. required ≤ level) levels → DalMet required levels rows
+  reached : (required : ℕ) → required ≤ 4 → AllByRecursion (λ level. required ≤ level) levels → DalMet required levels rows
   reached zero top h = tt
   reached (suc zero) top h = full_reached 1 0 (omega arith) h
   reached (suc (suc zero)) top h = inl (full_reached 2 0 (omega arith) h)
@@ -58,7 +58,7 @@ module _ (levels rows : List ℕ) (some : 0 < length levels) where
   reached (suc (suc (suc (suc zero)))) top h = inl (full_reached 4 2 (omega arith) h)
   reached (suc (suc (suc (suc (suc r))))) top h = absurd (omega arith)
 
-module _ (levels rows : List ℕ) (none : All (λ level. level ≡ 0) levels) where
+module _ (levels rows : List ℕ) (none : AllByRecursion (λ level. level ≡ 0) levels) where
   at_none : (k : ℕ) → k < length levels → slice_index levels k ≡ 0
   at_none k less = All-get_or (λ level. level ≡ 0) levels k 0 less none
 

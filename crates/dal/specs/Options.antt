@@ -1,5 +1,5 @@
 -- The avionics scale: one member at the full level, or two that are apart at the pair's, and no other too low. Assumes nothing.
-use Rattle.std.specs.Prelude.{◌≡◌, ℕ, zero, suc, ◌<◌, ◌≤◌, Bool, true, false, ◌&&◌, ◌||◌, ◌⊎◌, List, [], ◌∷◌, length, ◌==◌, ◌≢◌, nat_le, slice_index}
+use Rattle.std.specs.Prelude.{◌≡◌, ℕ, zero, suc, ◌<◌, ◌≤◌, Bool, true, false, ◌&&◌, ◌||◌, ◌⊎◌, List, length, ◌==◌, ◌≢◌, nat_le, slice_index}
 use Rattle.scale.specs.Question.{Meaning, apart}
 use Rattle.scale.specs.Rows.{any_below, all_below}
 

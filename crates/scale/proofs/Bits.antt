@@ -1,10 +1,10 @@
 -- The bits of a row. Assumes nothing.
-use Rattle.std.proofs.Common.{◌≡◌, ℕ, zero, suc, ◌+◌, ◌*◌, ◌/◌, ◌%◌, ◌^◌, ◌<◌, ◌≤◌, Bool, true, false, cond, not, ◌&&◌, ◌||◌, eqb, ltb, ◌⊎◌, List, length, get_or, Decides, sym, refl, ap, ◌∙◌, subst, inl, inr, ⊎_elim, one-mul, arith, pow_mono}
+use Rattle.std.proofs.Common.{◌≡◌, ℕ, zero, suc, ◌+◌, ◌/◌, ◌%◌, ◌^◌, ◌<◌, ◌≤◌, Bool, true, false, not, ◌&&◌, ◌||◌, eqb, ltb, ◌⊎◌, List, length, get_or, Decides, sym, refl, ap, ◌∙◌, inl, inr, ⊎_elim, one-mul, arith, pow_mono}
 use native.Mathlib.Nat.{div-eq_of_lt}
 use lib.Bits.{bit_and, bit_or}
 use Rattle.std.proofs.lemmas.List.{get_or_past}
 use Rattle.std.proofs.lemmas.Bool.{not-true, not_from_false, both_ways, cases_eq, cases_Bool, eqb-true, eq-eqb, ne_eqb, lt-ltb, le-ltb, and_left, and_right, and_from, and_parts, or_left, or_right, or_cases}
-use Rattle.std.proofs.lemmas.Nat.{and_shr, or_shr, and_mod, or_mod, and_mask, mod_below, or_comm, or_shifted, pow_pos, pow-add, and_le_l}
+use Rattle.std.proofs.lemmas.Nat.{and_shr, or_shr, and_mod, or_mod, and_mask, mod_below, or_shifted, pow_pos, pow-add, and_le_l}
 use Rattle.std.proofs.lemmas.Bool.Decides.{nat_tests, same_from_decides, Decides-like, Decides-and, Decides-eqb}
 use Rattle.scale.specs.Question.{bit, apart}
 use Rattle.scale.specs.Rows.{all_below, row_of, has_all}
@@ -126,7 +126,7 @@ byte_is_row x h = eqb-true x (row_of (bit x) 8) (all_below_at (λ x. eqb x (row_
 pub same_bits : (x y : ℕ) → x < 256 → y < 256 → ((k : ℕ) → k < 8 → bit x k ≡ bit y k) → x ≡ y
 same_bits x y hx hy h = byte_is_row x hx ∙ row_same (bit x) (bit y) 8 h ∙ sym (byte_is_row y hy)
 
--- what has_all says, bit by bit
+-- what `has_all` says, bit by bit
 abbrev pub HasAll : ℕ → ℕ → Type 0
 HasAll row other = (k : ℕ) → k < 8 → bit other k ≡ true → bit row k ≡ true
 

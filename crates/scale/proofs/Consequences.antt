@@ -1,10 +1,10 @@
 -- What the laws of a scale give. Assumes nothing.
 use Rattle.std.proofs.Common.{ℕ, ◌≤◌, List, [], ◌∷◌, arith}
-use Rattle.std.specs.List.{AllByRecursion as All}
+use Rattle.std.specs.List.{AllByRecursion}
 use Rattle.std.proofs.lemmas.Bool.{and_from}
-use Rattle.scale.specs.Question.{Meaning, formed, answer, Laws, ZeroMet}
+use Rattle.scale.specs.Question.{Meaning, formed, Laws, ZeroMet}
 
-at_least_none : (levels : List ℕ) → All (λ level. 0 ≤ level) levels
+at_least_none : (levels : List ℕ) → AllByRecursion (λ level. 0 ≤ level) levels
 at_least_none [] = tt
 at_least_none (l ∷ ls) = (omega arith, at_least_none ls)
 

@@ -1,6 +1,6 @@
 -- What a scale is asked, which questions are well-formed, and what every scale keeps. Assumes nothing.
 use Rattle.std.specs.Prelude.{◌≡◌, ℕ, ◌/◌, ◌%◌, ◌^◌, ◌<◌, ◌≤◌, Bool, true, false, ◌&&◌, List, [], ◌∷◌, length, ◌==◌, nat_le, nat_lt, slice_index}
-use Rattle.std.specs.List.{AllZip, AllByRecursion as All}
+use Rattle.std.specs.List.{AllZip, AllByRecursion}
 
 -- a yes or no for each question: a required level, the members' levels and a row for each member
 abbrev pub Meaning : Type 0
@@ -34,9 +34,9 @@ pub record Laws (means : Meaning) : Type 0 where
   -- Raise: a set that is met stays met when any members' levels rise
   pub raise : (required : ℕ) (levels higher rows : List ℕ) → formed required levels rows ≡ true → formed required higher rows ≡ true → AllZip (λ low high. low ≤ high) levels higher → means required levels rows ≡ true → means required higher rows ≡ true
   -- Reach: a set whose members all have at least the required level is met
-  pub reach : (required : ℕ) (levels rows : List ℕ) → formed required levels rows ≡ true → All (λ level. required ≤ level) levels → means required levels rows ≡ true
+  pub reach : (required : ℕ) (levels rows : List ℕ) → formed required levels rows ≡ true → AllByRecursion (λ level. required ≤ level) levels → means required levels rows ≡ true
   -- Bottom: a set whose members are all at 0 does not meet a required level above 0
-  pub bottom : (required : ℕ) (levels rows : List ℕ) → formed required levels rows ≡ true → All (λ level. level ≡ 0) levels → 0 < required → means required levels rows ≡ false
+  pub bottom : (required : ℕ) (levels rows : List ℕ) → formed required levels rows ≡ true → AllByRecursion (λ level. level ≡ 0) levels → 0 < required → means required levels rows ≡ false
 
 -- a well-formed question that requires level 0 is met
 abbrev pub ZeroMet : Meaning → Type 0

@@ -1,5 +1,5 @@
 -- Rows made from a relation between members, and tests over the numbers below a bound. Assumes nothing.
-use Rattle.std.specs.Prelude.{ℕ, zero, suc, ◌+◌, ◌^◌, Bool, true, false, cond, not, ◌&&◌, ◌||◌, List, [], ◌∷◌, ◌++◌}
+use Rattle.std.specs.Prelude.{ℕ, zero, suc, ◌+◌, ◌^◌, Bool, true, false, cond, not, ◌&&◌, ◌||◌}
 use Rattle.scale.specs.Question.{bit}
 
 -- some number below n passes

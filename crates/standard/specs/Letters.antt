@@ -1,7 +1,7 @@
 -- The letters of the levels: how a level is printed, and how a word is read as a level. Assumes nothing.
-use Rattle.std.specs.Prelude.{◌≡◌, ℕ, zero, suc, ◌<◌, ◌≤◌, Bool, true, cond, List, [], ◌∷◌, length, is_some, Some, None, codes, Option, nat_le}
+use Rattle.std.specs.Prelude.{◌≡◌, ℕ, zero, suc, ◌<◌, ◌≤◌, cond, List, [], ◌∷◌, length, is_some, Some, None, codes, Option, nat_le}
 use Rattle.std.specs.Option.{option_map}
-use Rattle.std.specs.List.{AllByRecursion as All}
+use Rattle.std.specs.List.{AllByRecursion}
 use Rattle.std.specs.Str.{bytes_eq}
 
 -- the bytes of a word
@@ -39,4 +39,4 @@ pub record Spelling (names : List Word) : Type 0 where
   -- a word that is read as a level is what is printed of it
   pub prints_read : (word : Word) (level : ℕ) → read_level names word ≡ Some level → printed names level ≡ Some word
   -- a name is one or more capital letters, so that it can stand as a word of a line
-  pub plain : All (λ name. (0 < length name) × All Capital name) names
+  pub plain : AllByRecursion (λ name. (0 < length name) × AllByRecursion Capital name) names

@@ -1,5 +1,5 @@
 -- Questions with known answers: what the scales answer to each, as theorems about the whole answer. Assumes nothing.
-use Rattle.std.specs.Prelude.{◌≡◌, ℕ, Bool, true, false, List, [], ◌∷◌}
+use Rattle.std.specs.Prelude.{◌≡◌, ℕ, true, false, List, [], ◌∷◌}
 use Rattle.scale.specs.Question.{answer}
 use Rattle.asil.specs.Groups.{asil_test}
 use Rattle.dal.specs.Options.{dal_test}

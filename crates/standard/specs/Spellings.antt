@@ -1,11 +1,11 @@
 -- The letters of the two scales are spelled so that printing and reading are inverse to each other. Assumes nothing.
-use Rattle.std.specs.Prelude.{◌≡◌, ℕ, zero, suc, ◌<◌, ◌≤◌, Bool, true, false, cond, List, [], ◌∷◌, length, is_some, Some, None, codes, Option, ◌≢◌, nat_le, slice_index, refl}
-use Rattle.std.proofs.Common.{sym, ap, ◌∙◌, ⊎_elim, arith, lit≤, lit<}
+use Rattle.std.specs.Prelude.{◌≡◌, ℕ, zero, suc, ◌<◌, Bool, true, false, cond, List, [], ◌∷◌, length, is_some, Some, None, codes, Option, ◌≢◌, nat_le, slice_index, refl}
+use Rattle.std.proofs.Common.{sym, ap, ◌∙◌, arith, lit≤, lit<}
 use Rattle.std.specs.Option.{option_map}
-use Rattle.std.specs.List.{AllByRecursion as All}
+use Rattle.std.specs.List.{AllByRecursion}
 use Rattle.std.specs.Str.{bytes_eq}
 use Rattle.std.proofs.lemmas.Slice.Eq.{bytes_eq-Decides}
-use Rattle.std.proofs.lemmas.Bool.{cases_Bool, both_ways, lt-leb}
+use Rattle.std.proofs.lemmas.Bool.{lt-leb}
 use Rattle.standard.specs.Letters.{Word, asil_names, dal_names, printed, read_level, Capital, Spelling}
 use Rattle.scale.proofs.Below.{false_from}
 
@@ -20,7 +20,7 @@ other_length : (word name : Word) → (length word ≢ length name) → bytes_eq
 other_length word name differ = sym (false_from (bytes_eq word name) (bytes_eq-Decides word name) (λ e. differ (ap length e)))
 
 -- a word that is no name is read as none
-read_none : (names : List Word) (word : Word) → All (λ name. bytes_eq word name ≡ false) names → None ≡ read_level names word
+read_none : (names : List Word) (word : Word) → AllByRecursion (λ name. bytes_eq word name ≡ false) names → None ≡ read_level names word
 read_none [] word h = refl
 read_none (name ∷ names) word h = rw (h.0, ← read_none names word h.1)
 
@@ -70,7 +70,7 @@ module _ (a b c d e : Word) where
   reads_printed h0 h1 h2 h3 h4 (suc (suc (suc (suc zero)))) word p = let w : e ≡ word = cc in ap (read_level all_five) (sym w) ∙ h4
   reads_printed h0 h1 h2 h3 h4 (suc (suc (suc (suc (suc n))))) word p = absurd (let z : ◌≡◌ {A = ℕ} 0 1 = cc in omega arith)
 
-one_capital : (b : ℕ) → Capital b → (0 < length (b ∷ [])) × All Capital (b ∷ [])
+one_capital : (b : ℕ) → Capital b → (0 < length (b ∷ [])) × AllByRecursion Capital (b ∷ [])
 one_capital b h = (omega arith, (h, tt))
 
 pub asil_spelling : Spelling asil_names

@@ -1,4 +1,4 @@
-// The letters of the levels: a trait of their own above the scales, since a search rules none.
+// The letters of the levels: a trait of their own above the scales, since a search needs none.
 
 ghost use Rattle.std.specs.Prelude.{◌≡◌, List, [], ◌∷◌};
 ghost use Rattle.std.specs.Option.{option_map};
@@ -9,9 +9,9 @@ ghost use Rattle.std.proofs.Common.{rules};
 
 use asil::groups::Asil;
 use dal::options::Dal;
-use two_kinds::Either;
 use scale::scale::Scale;
 use text::words::same;
+use two_kinds::Either;
 
 pub trait LevelNames: Scale {
     // The names of the levels from 0 up.

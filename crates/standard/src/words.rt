@@ -5,8 +5,8 @@ ghost use Rattle.standard.specs.Standards.{standard_of, standard_word, WordsInve
 
 use asil::groups::Asil;
 use dal::options::Dal;
-use two_kinds::Either;
 use text::words::same;
+use two_kinds::Either;
 
 pub type Standard = Either<Asil, Dal>;
 

@@ -1,6 +1,6 @@
 -- Cutting into words and joining them are inverse to each other. Assumes nothing.
 use Rattle.std.proofs.Common.{◌≡◌, ℕ, ◌-◌, ◌<◌, true, false, cond, eqb, List, [], ◌∷◌, ◌++◌, length, take, drop, sym, refl, ap, ◌∙◌, arith}
-use Rattle.std.specs.List.{AllByRecursion as All}
+use Rattle.std.specs.List.{AllByRecursion}
 use Rattle.std.proofs.lemmas.Bool.{eqb-true}
 use Rattle.std.proofs.lemmas.List.{take_rest}
 use Rattle.text.specs.Text.{Word, up_to, on_from, past, onto, words_of, fields_of, spaced, unwords, Lacks}
@@ -33,23 +33,23 @@ words_of_one [] r l vs e = e
 words_of_one (x ∷ w) r l vs e = rw l.0 (ap (onto x) (words_of_one w r l.1 vs e))
 
 -- joined words that lack a space are cut into those words again
-words_of_spaced : (w : Word) (ws : List Word) → Lacks 32 w → All (Lacks 32) ws → words_of (w ++ spaced ws) ≡ w ∷ ws
+words_of_spaced : (w : Word) (ws : List Word) → Lacks 32 w → AllByRecursion (Lacks 32) ws → words_of (w ++ spaced ws) ≡ w ∷ ws
 words_of_spaced w [] l ls = words_of_one w [] l [] refl
 words_of_spaced w (v ∷ vs) l ls = words_of_one w (32 ∷ (v ++ spaced vs)) l (v ∷ vs) (ap (λ us. [] ∷ us) (words_of_spaced v vs ls.0 ls.1))
 
-pub words_of_unwords : (ws : List Word) → 0 < length ws → All (Lacks 32) ws → words_of (unwords ws) ≡ ws
+pub words_of_unwords : (ws : List Word) → 0 < length ws → AllByRecursion (Lacks 32) ws → words_of (unwords ws) ≡ ws
 words_of_unwords [] some l = absurd (omega arith)
 words_of_unwords (w ∷ ws) some l = words_of_spaced w ws l.0 l.1
 
-lacks_onto : (x : ℕ) (ws : List Word) → eqb x 32 ≡ false → All (Lacks 32) ws → All (Lacks 32) (onto x ws)
+lacks_onto : (x : ℕ) (ws : List Word) → eqb x 32 ≡ false → AllByRecursion (Lacks 32) ws → AllByRecursion (Lacks 32) (onto x ws)
 lacks_onto x [] e l = ((e, tt), tt)
 lacks_onto x (w ∷ ws) e l = ((e, l.0), l.1)
 
 -- no word of a text has a space
-pub words_of_lack : (t : List ℕ) → All (Lacks 32) (words_of t)
+pub words_of_lack : (t : List ℕ) → AllByRecursion (Lacks 32) (words_of t)
 words_of_lack [] = (tt, tt)
 words_of_lack (x ∷ xs) =
-    (elim (eqb x 32) as (λ t. eqb x 32 ≡ t → All (Lacks 32) (cond t ([] ∷ words_of xs) (onto x (words_of xs)))) [
+    (elim (eqb x 32) as (λ t. eqb x 32 ≡ t → AllByRecursion (Lacks 32) (cond t ([] ∷ words_of xs) (onto x (words_of xs)))) [
       | true ↦ λ e. (tt, words_of_lack xs)
       | false ↦ λ e. lacks_onto x (words_of xs) e (words_of_lack xs)
     ]) refl

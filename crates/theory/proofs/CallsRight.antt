@@ -1,12 +1,12 @@
 -- Each call keeps its laws. Assumes nothing.
-use Rattle.std.proofs.Common.{◌≡◌, ℕ, zero, suc, ◌<◌, ◌≤◌, Bool, true, false, cond, not, ◌&&◌, ◌||◌, eqb, ltb, leb, ◌⊎◌, List, [], ◌∷◌, ◌++◌, length, get_or, drop, Ok, Err, Option, Result, sym, refl, ap, ◌∙◌, inl, inr, ⊎_elim, arith}
-use Rattle.std.specs.List.{AllByRecursion as All}
+use Rattle.std.proofs.Common.{◌≡◌, ℕ, zero, suc, ◌<◌, ◌≤◌, Bool, true, false, not, ◌&&◌, ◌||◌, eqb, ltb, leb, ◌⊎◌, List, [], ◌∷◌, ◌++◌, length, get_or, drop, Result, sym, refl, ap, ◌∙◌, inl, inr, ⊎_elim, arith}
+use Rattle.std.specs.List.{AllByRecursion}
 use Rattle.std.proofs.lemmas.List.{length-append, length-drop}
-use Rattle.std.proofs.lemmas.Bool.{le-leb, lt-leb, lt-ltb, le-ltb, eq-eqb, ne_eqb, or_left, or_right, or_from, and_from, and_parts, cases_Bool, cond-true, cond-false, cond_both, not_from_true, not_from_false, eqb-true, ltb-true, ltb-false}
+use Rattle.std.proofs.lemmas.Bool.{le-leb, lt-leb, lt-ltb, le-ltb, eq-eqb, ne_eqb, or_left, or_right, or_from, and_from, and_parts, cases_Bool, cond-true, cond-false, cond_both, not_from_true, not_from_false, eqb-true, ltb-false}
 use Rattle.cost.specs.declared.quote.Quote.{Quote}
 use Rattle.theory.specs.declared.part.Part.{Part}
-use Rattle.theory.specs.Model.{CutSet, Model, Ascending, Sound}
-use Rattle.theory.specs.Edits.{Outcome, no_range, refuse, part_call, ranged, range_call, declared, apart_call, all_stand, ascending, cut_call, without, drop_call}
+use Rattle.theory.specs.Model.{CutSet, Model, Ascending}
+use Rattle.theory.specs.Edits.{Outcome, no_range, part_call, ranged, range_call, declared, apart_call, all_stand, ascending, cut_call, without, drop_call}
 use Rattle.theory.specs.Walks.{Plan, plan_call, settled}
 use Rattle.theory.specs.Calls.{PartAdded, RangeChanged, PairChanged, SetAdded, SetDropped, PlanCopied, CallsRight}
 use Rattle.theory.proofs.Soundness.{length_ranged, stand_from, ascending_from}
@@ -103,7 +103,7 @@ pair_changed model a b value = record {
         cond_both (leb (length model.parts) a || leb (length model.parts) b) _ _ P (λ _. refl) (λ _. cond_both (eqb a b) _ _ P (λ _. refl) (λ _. e))
 
 -- the tests of members
-stands_to : (n : ℕ) (ms : List ℕ) → All (λ m. m < n) ms → all_stand n ms ≡ true
+stands_to : (n : ℕ) (ms : List ℕ) → AllByRecursion (λ m. m < n) ms → all_stand n ms ≡ true
 stands_to n [] h = refl
 stands_to n (m ∷ ms) h = and_from (ltb m n) (all_stand n ms) (lt-ltb m n h.0) (stands_to n ms h.1)
 
@@ -127,13 +127,13 @@ module _ (model : Model) (required : ℕ) (members : List ℕ) where
   good_count : 1 ≤ length members → length members ≤ 8 → (eqb (length members) 0 || ltb 8 (length members)) ≡ false
   good_count some few = or_from (eqb (length members) 0) (ltb 8 (length members)) (ne_eqb (length members) 0 (λ e. omega arith)) (le-ltb 8 (length members) few)
 
-  one_unknown : (All (λ m. m < length model.parts) members → ⊥) → not (all_stand (length model.parts) members) ≡ true
+  one_unknown : (AllByRecursion (λ m. m < length model.parts) members → ⊥) → not (all_stand (length model.parts) members) ≡ true
   one_unknown h = ⊎_elim
       (λ (t : all_stand (length model.parts) members ≡ true). absurd (h (stand_from (length model.parts) members t)))
       (λ (t : all_stand (length model.parts) members ≡ false). not_from_false (all_stand (length model.parts) members) t)
       (cases_Bool (all_stand (length model.parts) members))
 
-  all_known : All (λ m. m < length model.parts) members → not (all_stand (length model.parts) members) ≡ false
+  all_known : AllByRecursion (λ m. m < length model.parts) members → not (all_stand (length model.parts) members) ≡ false
   all_known h = not_from_true (all_stand (length model.parts) members) (stands_to (length model.parts) members h)
 
   not_sorted : (Ascending members → ⊥) → not (ascending members) ≡ true

@@ -1,5 +1,5 @@
 -- What the laws of a cost rule give of paths. Assumes nothing.
-use Rattle.std.proofs.Common.{◌≡◌, ℕ, Bool, true, false, List, [], ◌∷◌, ◌++◌, sym, refl, ap, ◌∙◌, subst, ⊎_elim}
+use Rattle.std.proofs.Common.{◌≡◌, ℕ, List, [], ◌∷◌, ◌++◌, sym, refl, ap, ◌∙◌, subst, ⊎_elim}
 use Rattle.cost.specs.declared.quote.Quote.{Quote}
 use Rattle.cost.specs.Laws.{AtMost, CostLaws}
 use Rattle.cost.specs.Totals.{cost_of}

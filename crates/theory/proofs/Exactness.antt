@@ -1,17 +1,15 @@
 -- The search is exact. Assumes nothing.
-use Rattle.std.proofs.Common.{◌≡◌, ℕ, zero, suc, ◌+◌, ◌<◌, ◌≤◌, Bool, true, false, cond, ◌&&◌, ◌⊎◌, ◌↔◌, List, [], ◌∷◌, ◌++◌, length, get_or, Some, None, Option, sym, refl, ap, ◌∙◌, subst, inl, inr, ⊎_elim, suc-add, zero-add, arith}
-use Rattle.std.specs.List.{AllByRecursion as All}
+use Rattle.std.proofs.Common.{◌≡◌, ℕ, zero, suc, ◌+◌, ◌<◌, ◌≤◌, Bool, true, false, cond, ◌&&◌, ◌↔◌, List, [], ◌∷◌, length, get_or, Some, None, Option, sym, refl, ap, ◌∙◌, subst, ⊎_elim, suc-add, zero-add, arith}
 use Rattle.std.proofs.lemmas.Bool.{both_ways, cases_Bool}
 use Rattle.scale.specs.Question.{Meaning, Laws}
 use Rattle.cost.specs.Laws.{AtMost, CostLaws}
 use Rattle.theory.specs.declared.part.Part.{Part}
-use Rattle.theory.specs.declared.verdict.Verdict.{Verdict}
-use Rattle.theory.specs.declared.verdict.Verdict.TheVariants.{Running, Settled, Blocked}
+use Rattle.theory.specs.declared.verdict.Verdict.TheVariants.{Settled, Blocked}
 use Rattle.theory.specs.Model.{CutSet, Model, Sound}
-use Rattle.theory.specs.Allocations.{Rule, Inside, MeetsAll, meets, cost, Earlier}
+use Rattle.theory.specs.Allocations.{Rule, meets, cost}
 use Rattle.theory.specs.Walks.{Walk, running, settled, blocked, Plan, onward, decide, step, work, taken, told, new_walk, advance, beyond, filled, all_pass, too_dear, first_failing, ceilings}
 use Rattle.theory.specs.Partials.{Partial, partials}
-use Rattle.theory.specs.Promise.{Ended, IsBlocked, Hopeless, FirstUnmet, FitPlan, BestPlan, InReach, Promised, Right, Exact, SearchExact}
+use Rattle.theory.specs.Promise.{Ended, IsBlocked, Hopeless, FirstUnmet, BestPlan, InReach, Promised, Right, SearchExact}
 use Rattle.theory.proofs.Order.{order_total}
 use Rattle.theory.proofs.Remaining.{remaining, remaining_some, Below, falls, falls_more}
 use Rattle.theory.proofs.Sets.{inside_ceilings, true_all, idle_fails, reach_meets}

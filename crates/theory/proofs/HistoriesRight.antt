@@ -1,11 +1,11 @@
 -- Where any history leads, the model is sound and what its edits bring, and a search then open is right. Assumes nothing.
 use Rattle.std.proofs.Common.{◌≡◌, ℕ, ◌+◌, List, [], ◌∷◌, ◌++◌, sym, refl, ap, ◌∙◌, subst, add-zero}
-use Rattle.std.specs.List.{AllByRecursion as All}
+use Rattle.std.specs.List.{AllByRecursion}
 use Rattle.theory.specs.Model.{Model, empty_model, Sound}
-use Rattle.theory.specs.Edits.{Edit, edit_model, edited, edited_from}
-use Rattle.theory.specs.Walks.{Walk, new_walk, work, told}
+use Rattle.theory.specs.Edits.{Edit, edit_model, edited_from}
+use Rattle.theory.specs.Walks.{new_walk, work, told}
 use Rattle.theory.specs.Promise.{Promised, Right}
-use Rattle.theory.specs.Histories.{Catalogue, Lawful, Move, edit, start, grant, ask, back, Standing, draft, opened, HandedMove, moved, run, grant_of, granted, edits_of, counting, model_of, SearchRight, StandingRight, HistoriesRight}
+use Rattle.theory.specs.Histories.{Catalogue, Lawful, Move, edit, start, grant, ask, back, Standing, draft, opened, HandedMove, moved, run, granted, edits_of, counting, model_of, SearchRight, HistoriesRight}
 use Rattle.theory.proofs.Exactness.{search_exact}
 use Rattle.theory.proofs.Soundness.{edit_sound, empty_sound}
 
@@ -22,7 +22,7 @@ module _ {c : Catalogue} (lawful : Lawful c) where
   unmoved : (g : ℕ) (standing : Standing c) → Known g standing → Known (g + 0) standing
   unmoved g standing h = subst (λ n. Known n standing) (sym (add-zero g)) h
 
-  after : (moves : List (Move c)) → All HandedMove moves → (g : ℕ) (standing : Standing c) → Known g standing → Known (granted g standing moves) (run standing moves)
+  after : (moves : List (Move c)) → AllByRecursion HandedMove moves → (g : ℕ) (standing : Standing c) → Known g standing → Known (granted g standing moves) (run standing moves)
   after [] handed g standing h = h
   after (edit e ∷ ms) handed g (draft model) h = after ms handed.1 0 (draft (edit_model model e)) (edit_sound model e handed.0 h)
   after (start s r ∷ ms) handed g (draft model) h = after ms handed.1 0 (opened model s r new_walk) (h, refl)

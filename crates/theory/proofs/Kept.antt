@@ -1,12 +1,12 @@
 -- What holds of a walk at every step. Assumes nothing.
-use Rattle.std.proofs.Common.{◌≡◌, ℕ, ◌<◌, ◌≤◌, Bool, true, false, not, ◌⊎◌, List, [], ◌∷◌, ◌++◌, length, Some, None, Option, sym, refl, ap, ◌∙◌, subst, inl, inr, ⊎_elim, arith}
-use Rattle.std.specs.List.{AllByRecursion as All}
+use Rattle.std.proofs.Common.{◌≡◌, ℕ, ◌≤◌, Bool, true, false, ◌⊎◌, List, [], ◌∷◌, ◌++◌, Some, None, Option, sym, refl, ap, subst, inl, inr, ⊎_elim, arith}
+use Rattle.std.specs.List.{AllByRecursion}
 use Rattle.std.proofs.lemmas.Bool.{both_ways, not-true, not-false}
 use Rattle.scale.specs.Question.{Meaning, Laws}
 use Rattle.cost.specs.Laws.{AtMost, CostLaws}
 use Rattle.cost.proofs.Amounts.{at_most_itself}
 use Rattle.theory.specs.declared.part.Part.{Part}
-use Rattle.theory.specs.Model.{CutSet, Model, Sound, SoundPart}
+use Rattle.theory.specs.Model.{Model, Sound, SoundPart}
 use Rattle.theory.specs.Allocations.{Rule, Inside, MeetsAll, meets, cost, Earlier}
 use Rattle.theory.specs.Walks.{Walk, running, settled, blocked, Plan, onward, decide, step, advance, beyond, filled, all_pass, too_dear, first_failing, ceilings}
 use Rattle.theory.specs.Partials.{Partial}
@@ -16,7 +16,7 @@ use Rattle.theory.proofs.Costs.{at_most_other, extends_grows}
 use Rattle.theory.proofs.Sets.{path_fails, true_all, whole_filled, whole_inside}
 
 -- the part after a path is one of the parts
-next_sound : (ps : List Part) (path : List ℕ) (q : Part) (rest : List Part) → beyond ps path ≡ q ∷ rest → Partial ps path → All SoundPart ps → q.floor ≤ q.ceiling
+next_sound : (ps : List Part) (path : List ℕ) (q : Part) (rest : List Part) → beyond ps path ≡ q ∷ rest → Partial ps path → AllByRecursion SoundPart ps → q.floor ≤ q.ceiling
 next_sound [] [] q rest e on s = absurd (let z : ◌≡◌ {A = ℕ} 0 1 = cc in omega arith)
 next_sound (p ∷ ps) [] q rest e on s = let same : p ≡ q = cc in omega (arith, s.0.range, ap (λ (r : Part). r.floor) same, ap (λ (r : Part). r.ceiling) same)
 next_sound [] (l ∷ ls) q rest e on s = absurd on

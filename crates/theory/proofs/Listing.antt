@@ -1,11 +1,11 @@
 -- The listing has exactly the partial allocations, each once. Assumes nothing.
-use Rattle.std.proofs.Common.{◌≡◌, ℕ, zero, suc, ◌+◌, ◌-◌, ◌*◌, ◌<◌, ◌≤◌, ◌⊎◌, ◌↔◌, List, [], ◌∷◌, ◌++◌, map, length, get_or, take, sym, refl, ap, ◌∙◌, subst, inl, inr, ⊎_elim, add-mul, one-mul, zero-mul, mul-add, arith}
-use Rattle.std.specs.List.{ContainsAt as Has, AllByRecursion as All}
+use Rattle.std.proofs.Common.{◌≡◌, ℕ, zero, suc, ◌+◌, ◌*◌, ◌<◌, ◌≤◌, ◌⊎◌, List, [], ◌∷◌, ◌++◌, map, length, get_or, take, sym, refl, ap, ◌∙◌, subst, inl, inr, ⊎_elim, add-mul, one-mul, zero-mul, mul-add, arith}
+use Rattle.std.specs.List.{ContainsAt, AllByRecursion}
 use Rattle.std.proofs.lemmas.List.{length-map, length-append}
 use Rattle.std.proofs.lemmas.Bool.{cases_eq}
 use Rattle.theory.specs.declared.part.Part.{Part}
 use Rattle.theory.specs.Model.{SoundPart}
-use Rattle.theory.specs.Partials.{Partial, width, partials, each_level, listing, EachOnce, choices, sum_to, Counted, PartialsCounted}
+use Rattle.theory.specs.Partials.{Partial, width, partials, each_level, listing, EachOnce, choices, sum_to, PartialsCounted}
 
 first_out : (n : ℕ) (f : ℕ → ℕ) → sum_to (suc n) f ≡ f 0 + sum_to n (λ m. f (suc m))
 first_out zero f = refl
@@ -23,7 +23,7 @@ formula (p ∷ ps) =
     ap (λ n. 1 + n) (rest ∙ sym (factor_out (length ps) w (λ m. choices (take m ps))))
     ∙ sym (first_out (length ps) (λ m. choices (take m (p ∷ ps))))
 
--- membership by recursion, which is what `Has` says by index
+-- membership by recursion, which is what `ContainsAt` says by index
 abbrev In : {X : Type 0} → List X → X → Type 0
 In [] x = ⊥
 In (y ∷ ys) x = (y ≡ x) ⊎ In ys x
@@ -33,10 +33,10 @@ in_at [] x k less e = absurd (omega arith)
 in_at (y ∷ ys) x zero less e = inl (e x)
 in_at (y ∷ ys) x (suc k) less e = inr (in_at ys x k (omega arith) e)
 
-in_from_has : {X : Type 0} (xs : List X) (x : X) → Has xs x → In xs x
+in_from_has : {X : Type 0} (xs : List X) (x : X) → ContainsAt xs x → In xs x
 in_from_has xs x h = in_at xs x h.0 h.1 h.2
 
-has_from_in : {X : Type 0} (xs : List X) (x : X) → In xs x → Has xs x
+has_from_in : {X : Type 0} (xs : List X) (x : X) → In xs x → ContainsAt xs x
 has_from_in [] x h = absurd h
 has_from_in (y ∷ ys) x (inl e) = (0, omega arith, λ d. e)
 has_from_in (y ∷ ys) x (inr h) = let later = has_from_in ys x h in (suc later.0, omega (arith, later.1), later.2)
@@ -80,7 +80,7 @@ each_in l (suc n) m paths path low high h = ⊎_elim
     (λ differ. in_right (map (λ path. l ∷ path) paths) (each_level (suc l) n paths) (m ∷ path) (each_in (suc l) n m paths path (omega arith) (omega arith) h))
     (cases_eq m l)
 
-listed : (parts : List Part) → All SoundPart parts → (path : List ℕ) → In (listing parts) path → Partial parts path
+listed : (parts : List Part) → AllByRecursion SoundPart parts → (path : List ℕ) → In (listing parts) path → Partial parts path
 listed [] s path (inl e) = subst (λ (q : List ℕ). Partial [] q) e tt
 listed [] s path (inr h) = absurd h
 listed (p ∷ ps) s path (inl e) = subst (λ (q : List ℕ). Partial (p ∷ ps) q) e tt
@@ -88,7 +88,7 @@ listed (p ∷ ps) s path (inr h) =
     let t = in_each p.floor (width p) (listing ps) path h in
     subst (λ (q : List ℕ). Partial (p ∷ ps) q) t.2 (t.3, omega (arith, t.4, s.0.range), listed ps s.1 t.1 t.5)
 
-lists : (parts : List Part) → All SoundPart parts → (path : List ℕ) → Partial parts path → In (listing parts) path
+lists : (parts : List Part) → AllByRecursion SoundPart parts → (path : List ℕ) → Partial parts path → In (listing parts) path
 lists [] s [] h = inl refl
 lists [] s (l ∷ ls) h = absurd h
 lists (p ∷ ps) s [] h = inl refl

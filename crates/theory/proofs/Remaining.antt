@@ -1,9 +1,9 @@
 -- How many partial allocations are at a path or after it. Assumes nothing.
-use Rattle.std.proofs.Common.{◌≡◌, ℕ, suc, ◌+◌, ◌-◌, ◌*◌, ◌<◌, ◌≤◌, Bool, true, false, cond, ltb, List, [], ◌∷◌, ◌++◌, Some, None, Option, sym, refl, ap, ◌∙◌, add-mul, one-mul, arith}
+use Rattle.std.proofs.Common.{◌≡◌, ℕ, suc, ◌+◌, ◌-◌, ◌*◌, ◌<◌, ◌≤◌, Bool, true, false, cond, ltb, List, [], ◌∷◌, ◌++◌, Some, None, Option, refl, ap, add-mul, one-mul, arith}
 use Rattle.std.proofs.lemmas.Bool.{ltb-true}
 use Rattle.theory.specs.declared.part.Part.{Part}
 use Rattle.theory.specs.Walks.{advance, raised, beyond}
-use Rattle.theory.specs.Partials.{Partial, width, partials}
+use Rattle.theory.specs.Partials.{Partial, partials}
 
 abbrev pub remaining : List Part → List ℕ → ℕ
 remaining ps [] = partials ps

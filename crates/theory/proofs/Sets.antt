@@ -1,6 +1,6 @@
 -- What the laws of a scale give of the sets of a project. Assumes nothing.
-use Rattle.std.proofs.Common.{◌≡◌, ℕ, zero, suc, ◌+◌, ◌^◌, ◌<◌, ◌≤◌, Bool, true, false, ◌&&◌, eqb, ltb, leb, List, [], ◌∷◌, ◌++◌, map, length, get_or, sym, refl, ap, ◌∙◌, subst, arith, pow_mono}
-use Rattle.std.specs.List.{AllZip, AllByRecursion as All}
+use Rattle.std.proofs.Common.{◌≡◌, ℕ, zero, suc, ◌<◌, ◌≤◌, Bool, true, false, leb, List, [], ◌∷◌, map, length, get_or, refl, arith, pow_mono}
+use Rattle.std.specs.List.{AllZip, AllByRecursion}
 use Rattle.std.proofs.ByRecursion.{All-map}
 use Rattle.std.proofs.lemmas.List.{length-map}
 use Rattle.std.proofs.lemmas.Bool.{and_from, and_parts, and_right, both_ways, le-leb, lt-ltb, eq-eqb}
@@ -9,24 +9,24 @@ use Rattle.scale.proofs.Bits.{row_below}
 use Rattle.theory.specs.declared.part.Part.{Part}
 use Rattle.theory.specs.Model.{CutSet, Model, SoundPart, SoundSet, Sound}
 use Rattle.theory.specs.Allocations.{Inside, row, rows, levels_of, meets, MeetsAll}
-use Rattle.theory.specs.Walks.{all_pass, first_failing, ceilings, filled, beyond}
+use Rattle.theory.specs.Walks.{all_pass, ceilings, filled, beyond}
 use Rattle.theory.specs.Partials.{Partial}
 use Rattle.theory.proofs.Order.{Extends}
 
 -- levels
 
-pub inside_low : (ps : List Part) (x : List ℕ) → All SoundPart ps → Inside ps x → (k : ℕ) → get_or x k 0 ≤ 4
+pub inside_low : (ps : List Part) (x : List ℕ) → AllByRecursion SoundPart ps → Inside ps x → (k : ℕ) → get_or x k 0 ≤ 4
 inside_low [] [] s ins k = omega arith
 inside_low [] (x ∷ xs) s ins k = absurd ins
 inside_low (p ∷ ps) [] s ins k = absurd ins
 inside_low (p ∷ ps) (x ∷ xs) s ins zero = omega (arith, s.0.top, ins.1)
 inside_low (p ∷ ps) (x ∷ xs) s ins (suc k) = inside_low ps xs s.1 ins.2 k
 
-pub inside_ceilings : (ps : List Part) → All SoundPart ps → Inside ps (ceilings ps)
+pub inside_ceilings : (ps : List Part) → AllByRecursion SoundPart ps → Inside ps (ceilings ps)
 inside_ceilings [] s = tt
 inside_ceilings (p ∷ ps) s = (s.0.range, omega arith, inside_ceilings ps s.1)
 
-pub inside_filled : (ps : List Part) (path : List ℕ) → All SoundPart ps → Partial ps path → Inside ps (filled ps path)
+pub inside_filled : (ps : List Part) (path : List ℕ) → AllByRecursion SoundPart ps → Partial ps path → Inside ps (filled ps path)
 inside_filled ps [] s on = inside_ceilings ps s
 inside_filled [] (l ∷ ls) s on = absurd on
 inside_filled (p ∷ ps) (l ∷ ls) s on = (on.0, on.1, inside_filled ps ls s.1 on.2)
@@ -67,7 +67,7 @@ each_map : (f g : ℕ → ℕ) → ((m : ℕ) → f m ≤ g m) → (ms : List �
 each_map f g h [] = tt
 each_map f g h (m ∷ ms) = (h m, each_map f g h ms)
 
-all_always : (P : ℕ → Type 0) → ((m : ℕ) → P m) → (ms : List ℕ) → All P ms
+all_always : (P : ℕ → Type 0) → ((m : ℕ) → P m) → (ms : List ℕ) → AllByRecursion P ms
 all_always P h [] = tt
 all_always P h (m ∷ ms) = (h m, all_always P h ms)
 
@@ -88,11 +88,11 @@ formed_set apart levels n s low ok =
 
 -- sets
 
-pub all_true : (test : CutSet → Bool) (ss : List CutSet) → All (λ s. test s ≡ true) ss → all_pass test ss ≡ true
+pub all_true : (test : CutSet → Bool) (ss : List CutSet) → AllByRecursion (λ s. test s ≡ true) ss → all_pass test ss ≡ true
 all_true test [] h = refl
 all_true test (s ∷ ss) h = and_from (test s) (all_pass test ss) h.0 (all_true test ss h.1)
 
-pub true_all : (test : CutSet → Bool) (ss : List CutSet) → all_pass test ss ≡ true → All (λ s. test s ≡ true) ss
+pub true_all : (test : CutSet → Bool) (ss : List CutSet) → all_pass test ss ≡ true → AllByRecursion (λ s. test s ≡ true) ss
 true_all test [] h = tt
 true_all test (s ∷ ss) h = let both = and_parts (test s) (all_pass test ss) h in (both.0, true_all test ss both.1)
 
@@ -118,7 +118,7 @@ module _ (means : Meaning) (laws : Laws means) (model : Model) (sound : Sound mo
           by_meaning s.required (levels_of y s.members) rs fy
           (laws.raise s.required (levels_of x s.members) (levels_of y s.members) rs parts.0 fy (each_map (λ m. get_or x m 0) (λ m. get_or y m 0) up s.members) parts.1)
 
-      go : (ss : List CutSet) → All (SoundSet n) ss → All (λ s. meets means model x s ≡ true) ss → All (λ s. meets means model y s ≡ true) ss
+      go : (ss : List CutSet) → AllByRecursion (SoundSet n) ss → AllByRecursion (λ s. meets means model x s ≡ true) ss → AllByRecursion (λ s. meets means model y s ≡ true) ss
       go [] ok h = tt
       go (s ∷ ss) ok h = (one s ok.0 h.0, go ss ok.1 h.1)
 
@@ -130,7 +130,7 @@ module _ (means : Meaning) (laws : Laws means) (model : Model) (sound : Sound mo
       (raise_all x (filled model.parts path) ins (inside_filled model.parts path sound.parts on) (below_filled model.parts path x ins h) m))
 
   -- all at 0 meets no set
-  pub idle_fails : (levels : List ℕ) (ss : List CutSet) → ((k : ℕ) → get_or levels k 0 ≡ 0) → All (SoundSet (length model.parts)) ss → All (λ s. meets means model levels s ≡ true) ss → 0 < length ss → ⊥
+  pub idle_fails : (levels : List ℕ) (ss : List CutSet) → ((k : ℕ) → get_or levels k 0 ≡ 0) → AllByRecursion (SoundSet (length model.parts)) ss → AllByRecursion (λ s. meets means model levels s ≡ true) ss → 0 < length ss → ⊥
   idle_fails levels [] z ok m h = omega arith
   idle_fails levels (s ∷ ss) z ok m h =
       let rs = rows model.apart s.members in
@@ -141,7 +141,7 @@ module _ (means : Meaning) (laws : Laws means) (model : Model) (sound : Sound mo
       m.0
 
   -- members in reach meet every set
-  pub reach_meets : All (λ set. All (λ m. set.required ≤ get_or (ceilings model.parts) m 0) set.members) model.sets → MeetsAll means model (ceilings model.parts)
+  pub reach_meets : AllByRecursion (λ set. AllByRecursion (λ m. set.required ≤ get_or (ceilings model.parts) m 0) set.members) model.sets → MeetsAll means model (ceilings model.parts)
   reach_meets = go model.sets sound.sets
     where
       top : List ℕ
@@ -150,7 +150,7 @@ module _ (means : Meaning) (laws : Laws means) (model : Model) (sound : Sound mo
       low : (k : ℕ) → get_or (ceilings model.parts) k 0 ≤ 4
       low = inside_low model.parts (ceilings model.parts) sound.parts (inside_ceilings model.parts sound.parts)
 
-      go : (ss : List CutSet) → All (SoundSet (length model.parts)) ss → All (λ set. All (λ m. set.required ≤ get_or (ceilings model.parts) m 0) set.members) ss → All (λ s. meets means model (ceilings model.parts) s ≡ true) ss
+      go : (ss : List CutSet) → AllByRecursion (SoundSet (length model.parts)) ss → AllByRecursion (λ set. AllByRecursion (λ m. set.required ≤ get_or (ceilings model.parts) m 0) set.members) ss → AllByRecursion (λ s. meets means model (ceilings model.parts) s ≡ true) ss
       go [] ok h = tt
       go (s ∷ ss) ok h = (
         let rs = rows model.apart s.members in

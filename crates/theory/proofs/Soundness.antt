@@ -1,6 +1,6 @@
 -- Every edit keeps a model sound. Assumes nothing.
 use Rattle.std.proofs.Common.{◌≡◌, ℕ, zero, suc, ◌+◌, ◌<◌, ◌≤◌, Bool, true, false, cond, not, ◌&&◌, ◌||◌, eqb, ltb, leb, ◌⊎◌, List, [], ◌∷◌, ◌++◌, length, sym, refl, ap, ◌∙◌, subst, inl, inr, ⊎_elim, true≢false, arith}
-use Rattle.std.specs.List.{AllByRecursion as All}
+use Rattle.std.specs.List.{AllByRecursion}
 use Rattle.std.proofs.lemmas.List.{length_push}
 use Rattle.std.proofs.ByRecursion.{All-push, All-weaker}
 use Rattle.std.proofs.lemmas.Bool.{and_parts, or_cases, or_parts, ltb-true, ltb-false, leb-false, eqb-true, eqb-false, not-false, cond_both}
@@ -20,7 +20,7 @@ set_more n s ok = record {
   ascending = ok.ascending;
 }
 
-pub stand_from : (n : ℕ) (ms : List ℕ) → all_stand n ms ≡ true → All (λ m. m < n) ms
+pub stand_from : (n : ℕ) (ms : List ℕ) → all_stand n ms ≡ true → AllByRecursion (λ m. m < n) ms
 stand_from n [] h = tt
 stand_from n (m ∷ ms) h = let b = and_parts (ltb m n) (all_stand n ms) h in (ltb-true m n b.0, stand_from n ms b.1)
 
@@ -34,12 +34,12 @@ length_ranged [] n f c = refl
 length_ranged (p ∷ ps) zero f c = refl
 length_ranged (p ∷ ps) (suc n) f c = ap suc (length_ranged ps n f c)
 
-all_ranged : (ps : List Part) (n f c : ℕ) → f ≤ c → c ≤ 4 → All SoundPart ps → All SoundPart (ranged ps n f c)
+all_ranged : (ps : List Part) (n f c : ℕ) → f ≤ c → c ≤ 4 → AllByRecursion SoundPart ps → AllByRecursion SoundPart (ranged ps n f c)
 all_ranged [] n f c le top s = tt
 all_ranged (p ∷ ps) zero f c le top s = (record { range = le; top = top; five = s.0.five; fit = s.0.fit }, s.1)
 all_ranged (p ∷ ps) (suc n) f c le top s = (s.0, all_ranged ps n f c le top s.1)
 
-all_without : (P : CutSet → Type 0) (ss : List CutSet) (n : ℕ) → All P ss → All P (without ss n)
+all_without : (P : CutSet → Type 0) (ss : List CutSet) (n : ℕ) → AllByRecursion P ss → AllByRecursion P (without ss n)
 all_without P [] n h = tt
 all_without P (s ∷ ss) zero h = h.1
 all_without P (s ∷ ss) (suc n) h = (h.0, all_without P ss n h.1)
@@ -91,7 +91,7 @@ pair_stands n a b x y ha hb e =
 
 -- each edit that is accepted, by what its tests have ruled out
 module _ (model : Model) (s : Sound model) where
-  with_part : (f c : ℕ) (qs : List Quote) → length model.parts < 64 → f ≤ c → c ≤ 4 → length qs ≡ 5 → All Fits32 qs → Sound (record { parts = model.parts ++ (record { floor = f; ceiling = c; quotes = qs } ∷ []); apart = model.apart; sets = model.sets })
+  with_part : (f c : ℕ) (qs : List Quote) → length model.parts < 64 → f ≤ c → c ≤ 4 → length qs ≡ 5 → AllByRecursion Fits32 qs → Sound (record { parts = model.parts ++ (record { floor = f; ceiling = c; quotes = qs } ∷ []); apart = model.apart; sets = model.sets })
   with_part f c qs room le top five fit =
       let new : Part = record { floor = f; ceiling = c; quotes = qs } in
       let long = length_push model.parts new in
@@ -102,7 +102,7 @@ module _ (model : Model) (s : Sound model) where
         irreflexive = s.irreflexive;
         only_standing = λ a b e. let t = s.only_standing a b e in (omega (arith, t.0), omega (arith, t.1));
         few_sets = s.few_sets;
-        sets = subst (λ m. All (SoundSet m) model.sets) (sym long) (All-weaker (SoundSet (length model.parts)) (SoundSet (length model.parts + 1)) (set_more (length model.parts)) model.sets s.sets);
+        sets = subst (λ m. AllByRecursion (SoundSet m) model.sets) (sym long) (All-weaker (SoundSet (length model.parts)) (SoundSet (length model.parts + 1)) (set_more (length model.parts)) model.sets s.sets);
       }
 
   with_range : (k f c : ℕ) → f ≤ c → c ≤ 4 → Sound (record { parts = ranged model.parts k f c; apart = model.apart; sets = model.sets })
@@ -115,7 +115,7 @@ module _ (model : Model) (s : Sound model) where
         irreflexive = s.irreflexive;
         only_standing = λ a b e. let t = s.only_standing a b e in (omega (arith, t.0), omega (arith, t.1));
         few_sets = s.few_sets;
-        sets = subst (λ m. All (SoundSet m) model.sets) (sym long) s.sets;
+        sets = subst (λ m. AllByRecursion (SoundSet m) model.sets) (sym long) s.sets;
       }
 
   with_pair : (a b : ℕ) (v : Bool) → a < length model.parts → b < length model.parts → (a ≡ b → ⊥) → Sound (record { parts = model.parts; apart = declared model.apart a b v; sets = model.sets })
@@ -181,7 +181,7 @@ module _ (model : Model) (s : Sound model) where
       positive : (n : ℕ) → (n ≡ 0 → ⊥) → 1 ≤ n
       positive n h = omega arith
 
-  sound_after_part : (f c : ℕ) (qs : List Quote) → length qs ≡ 5 → All Fits32 qs → Sound (part_call model f c qs).1
+  sound_after_part : (f c : ℕ) (qs : List Quote) → length qs ≡ 5 → AllByRecursion Fits32 qs → Sound (part_call model f c qs).1
   sound_after_part f c qs five fit =
       let P : Outcome ℕ → Type 0 = λ o. Sound o.1 in
       cond_both (leb 64 (length model.parts)) _ _ P (λ _. s)

@@ -1,6 +1,6 @@
 -- Allocations of levels to the parts of a project: what is inside the ranges, what meets the sets, what it costs, and what is earlier.
 use Rattle.std.specs.Prelude.{◌≡◌, ℕ, ◌<◌, ◌≤◌, Bool, true, ◌&&◌, ◌⊎◌, List, [], ◌∷◌, map, length, nat_lt, slice_index, slice_index_or}
-use Rattle.std.specs.List.{AllByRecursion as All}
+use Rattle.std.specs.List.{AllByRecursion}
 use Rattle.scale.specs.Question.{Meaning, answer, bit}
 use Rattle.scale.specs.Rows.{row_of}
 use Rattle.cost.specs.declared.quote.Quote.{Quote}
@@ -39,7 +39,7 @@ meets means model levels set = answer means set.required (levels_of levels set.m
 
 -- An allocation meets every set.
 abbrev pub MeetsAll : Meaning → Model → List ℕ → Type 0
-MeetsAll means model levels = All (λ set. meets means model levels set ≡ true) model.sets
+MeetsAll means model levels = AllByRecursion (λ set. meets means model levels set ≡ true) model.sets
 
 -- The quote of a part at a level.
 abbrev pub quote_at : Part → ℕ → Quote

@@ -1,11 +1,11 @@
 -- What each call does, told fault by fault and field by field: the laws that its definition keeps.
-use Rattle.std.specs.Prelude.{◌≡◌, ℕ, suc, ◌<◌, ◌≤◌, Bool, true, false, ◌⊎◌, List, [], ◌∷◌, ◌++◌, length, get_or, Ok, Err, Option, Result, ◌≢◌, slice_index_or}
-use Rattle.std.specs.List.{AllByRecursion as All}
+use Rattle.std.specs.Prelude.{◌≡◌, ℕ, suc, ◌<◌, ◌≤◌, Bool, false, ◌⊎◌, List, [], ◌∷◌, ◌++◌, length, get_or, Ok, Err, Option, ◌≢◌, slice_index_or}
+use Rattle.std.specs.List.{AllByRecursion}
 use Rattle.cost.specs.declared.quote.Quote.{Quote}
 use Rattle.theory.specs.declared.part.Part.{Part}
 use Rattle.theory.specs.Model.{CutSet, Model, Ascending, Sound}
 use Rattle.theory.specs.Edits.{refuse, part_call, range_call, apart_call, cut_call, drop_call}
-use Rattle.theory.specs.Walks.{Plan, Walk, running, settled, blocked, plan_call}
+use Rattle.theory.specs.Walks.{Plan, running, settled, blocked, plan_call}
 
 -- Adding a part.
 pub record PartAdded (model : Model) (floor ceiling : ℕ) (quotes : List Quote) : Type 0 where
@@ -43,10 +43,10 @@ pub record SetAdded (model : Model) (required : ℕ) (members : List ℕ) : Type
   pub full : 128 ≤ length model.sets → cut_call model required members ≡ refuse 5 model
   pub no_level : length model.sets < 128 → (required ≡ 0) ⊎ (4 < required) → cut_call model required members ≡ refuse 6 model
   pub no_count : length model.sets < 128 → 1 ≤ required → required ≤ 4 → (length members ≡ 0) ⊎ (8 < length members) → cut_call model required members ≡ refuse 7 model
-  pub unknown : length model.sets < 128 → 1 ≤ required → required ≤ 4 → 1 ≤ length members → length members ≤ 8 → (All (λ m. m < length model.parts) members → ⊥) → cut_call model required members ≡ refuse 3 model
-  pub unsorted : length model.sets < 128 → 1 ≤ required → required ≤ 4 → 1 ≤ length members → length members ≤ 8 → All (λ m. m < length model.parts) members → (Ascending members → ⊥) → cut_call model required members ≡ refuse 8 model
-  pub answers : length model.sets < 128 → 1 ≤ required → required ≤ 4 → 1 ≤ length members → length members ≤ 8 → All (λ m. m < length model.parts) members → Ascending members → (cut_call model required members).0 ≡ Ok (length model.sets)
-  pub sets : length model.sets < 128 → 1 ≤ required → required ≤ 4 → 1 ≤ length members → length members ≤ 8 → All (λ m. m < length model.parts) members → Ascending members → (cut_call model required members).1.sets ≡ model.sets ++ (record { required = required; members = members } ∷ [])
+  pub unknown : length model.sets < 128 → 1 ≤ required → required ≤ 4 → 1 ≤ length members → length members ≤ 8 → (AllByRecursion (λ m. m < length model.parts) members → ⊥) → cut_call model required members ≡ refuse 3 model
+  pub unsorted : length model.sets < 128 → 1 ≤ required → required ≤ 4 → 1 ≤ length members → length members ≤ 8 → AllByRecursion (λ m. m < length model.parts) members → (Ascending members → ⊥) → cut_call model required members ≡ refuse 8 model
+  pub answers : length model.sets < 128 → 1 ≤ required → required ≤ 4 → 1 ≤ length members → length members ≤ 8 → AllByRecursion (λ m. m < length model.parts) members → Ascending members → (cut_call model required members).0 ≡ Ok (length model.sets)
+  pub sets : length model.sets < 128 → 1 ≤ required → required ≤ 4 → 1 ≤ length members → length members ≤ 8 → AllByRecursion (λ m. m < length model.parts) members → Ascending members → (cut_call model required members).1.sets ≡ model.sets ++ (record { required = required; members = members } ∷ [])
   pub same_parts : (cut_call model required members).1.parts ≡ model.parts
   pub same_apart : (a b : ℕ) → (cut_call model required members).1.apart a b ≡ model.apart a b
 

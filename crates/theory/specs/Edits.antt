@@ -1,6 +1,6 @@
 -- The five edits of a project: what each answers and which model it leaves, for every input.
-use Rattle.std.specs.Prelude.{◌≡◌, ℕ, zero, suc, Bool, true, false, cond, not, ◌&&◌, ◌||◌, List, [], ◌∷◌, ◌++◌, length, Ok, Err, Result, ◌==◌, nat_le, nat_lt}
-use Rattle.std.specs.List.{AllByRecursion as All}
+use Rattle.std.specs.Prelude.{◌≡◌, ℕ, zero, suc, Bool, true, cond, not, ◌&&◌, ◌||◌, List, [], ◌∷◌, ◌++◌, length, Ok, Err, Result, ◌==◌, nat_le, nat_lt}
+use Rattle.std.specs.List.{AllByRecursion}
 use Rattle.cost.specs.declared.quote.Quote.{Quote}
 use Rattle.cost.specs.Totals.{Fits32}
 use Rattle.theory.specs.declared.part.Part.{Part}
@@ -147,7 +147,7 @@ edited es = edited_from empty_model es
 
 -- What a program can hand to an edit: a part has five quotes, of 32 bits.
 abbrev pub Handed : Edit → Type 0
-Handed (part floor ceiling quotes) = (length quotes ≡ 5) × All Fits32 quotes
+Handed (part floor ceiling quotes) = (length quotes ≡ 5) × AllByRecursion Fits32 quotes
 Handed (range n floor ceiling) = Unit {0}
 Handed (pair a b value) = Unit {0}
 Handed (cut required members) = Unit {0}

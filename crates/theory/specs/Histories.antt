@@ -1,6 +1,6 @@
 -- Histories of a project: the moves that are made of it, where they lead, and what holds there.
-use Rattle.std.specs.Prelude.{◌≡◌, ℕ, ◌+◌, Bool, List, [], ◌∷◌, ◌++◌}
-use Rattle.std.specs.List.{AllByRecursion as All}
+use Rattle.std.specs.Prelude.{◌≡◌, ℕ, ◌+◌, List, [], ◌∷◌, ◌++◌}
+use Rattle.std.specs.List.{AllByRecursion}
 use Rattle.scale.specs.Question.{Meaning, Laws}
 use Rattle.cost.specs.Laws.{CostLaws}
 use Rattle.theory.specs.Model.{Model, empty_model, Sound}
@@ -111,4 +111,4 @@ pub record StandingRight {c : Catalogue} (moves : List (Move c)) : Type 0 where
 
 -- That holds of every list of moves that a program can make.
 abbrev pub HistoriesRight : Catalogue → Type 0
-HistoriesRight c = Lawful c → (moves : List (Move c)) → All HandedMove moves → StandingRight moves
+HistoriesRight c = Lawful c → (moves : List (Move c)) → AllByRecursion HandedMove moves → StandingRight moves

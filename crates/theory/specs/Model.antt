@@ -1,6 +1,6 @@
 -- The model of a project: its parts, which of them are apart, and its cut sets.
 use Rattle.std.specs.Prelude.{◌≡◌, ℕ, ◌<◌, ◌≤◌, Bool, true, false, List, [], ◌∷◌, length}
-use Rattle.std.specs.List.{AllByRecursion as All}
+use Rattle.std.specs.List.{AllByRecursion}
 use Rattle.cost.specs.Totals.{Fits32}
 use Rattle.theory.specs.declared.part.Part.{Part}
 
@@ -30,7 +30,7 @@ pub record SoundPart (p : Part) : Type 0 where
   pub range : p.floor ≤ p.ceiling
   pub top : p.ceiling ≤ 4
   pub five : length p.quotes ≡ 5
-  pub fit : All Fits32 p.quotes
+  pub fit : AllByRecursion Fits32 p.quotes
 
 -- A sound set, among n parts, requires level 1 to 4 of 1 to 8 standing members in strictly ascending order.
 pub record SoundSet (n : ℕ) (s : CutSet) : Type 0 where
@@ -38,15 +38,15 @@ pub record SoundSet (n : ℕ) (s : CutSet) : Type 0 where
   pub top : s.required ≤ 4
   pub some_member : 1 ≤ length s.members
   pub few_members : length s.members ≤ 8
-  pub standing : All (λ m. m < n) s.members
+  pub standing : AllByRecursion (λ m. m < n) s.members
   pub ascending : Ascending s.members
 
 -- A sound model has at most 64 parts and 128 sets, all sound; apart is symmetric, never of a part with itself, and only among standing parts.
 pub record Sound (model : Model) : Type 0 where
   pub few_parts : length model.parts ≤ 64
-  pub parts : All SoundPart model.parts
+  pub parts : AllByRecursion SoundPart model.parts
   pub symmetric : (a b : ℕ) → model.apart a b ≡ model.apart b a
   pub irreflexive : (a : ℕ) → model.apart a a ≡ false
   pub only_standing : (a b : ℕ) → model.apart a b ≡ true → (a < length model.parts) × (b < length model.parts)
   pub few_sets : length model.sets ≤ 128
-  pub sets : All (SoundSet (length model.parts)) model.sets
+  pub sets : AllByRecursion (SoundSet (length model.parts)) model.sets

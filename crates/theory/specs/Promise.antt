@@ -1,13 +1,13 @@
 -- What is promised of a search, in words of allocations, ranges, sets and costs.
-use Rattle.std.specs.Prelude.{◌≡◌, ℕ, ◌+◌, ◌<◌, ◌≤◌, Bool, true, false, ◌↔◌, List, [], ◌∷◌, length, Some, None, Option, ◌≢◌, slice_index, slice_index_or}
-use Rattle.std.specs.List.{AllByRecursion as All}
+use Rattle.std.specs.Prelude.{◌≡◌, ℕ, ◌+◌, ◌<◌, ◌≤◌, true, false, ◌↔◌, List, length, Some, None, ◌≢◌, slice_index, slice_index_or}
+use Rattle.std.specs.List.{AllByRecursion}
 use Rattle.scale.specs.Question.{Meaning, Laws}
 use Rattle.cost.specs.Laws.{AtMost, CostLaws}
 use Rattle.theory.specs.declared.verdict.Verdict.{Verdict}
 use Rattle.theory.specs.declared.verdict.Verdict.TheVariants.{Running, Settled, Blocked}
 use Rattle.theory.specs.Model.{CutSet, Model, Sound}
 use Rattle.theory.specs.Allocations.{Rule, Inside, MeetsAll, meets, cost, Earlier}
-use Rattle.theory.specs.Walks.{Plan, Walk, running, settled, blocked, new_walk, ceilings, work, taken, told}
+use Rattle.theory.specs.Walks.{Walk, running, settled, blocked, new_walk, ceilings, work, taken, told}
 use Rattle.theory.specs.Partials.{partials}
 
 -- A search has ended once it tells settled or blocked.
@@ -47,7 +47,7 @@ module _ {A : Type 0} (means : Meaning) (rule : Rule A) (model : Model) where
 
   -- The ceiling of each member of each set reaches the level that the set requires.
   abbrev pub InReach : Type 0
-  InReach = All (λ set. All (λ m. set.required ≤ slice_index (ceilings model.parts) m) set.members) model.sets
+  InReach = AllByRecursion (λ set. AllByRecursion (λ m. set.required ≤ slice_index (ceilings model.parts) m) set.members) model.sets
 
   -- What is promised of a verdict after some steps were granted.
   pub record Promised (granted : ℕ) (verdict : Verdict A) : Type 0 where

@@ -1,5 +1,5 @@
 -- Projects with known searches: what the definitions give with the real scales and cost rules, beside the scales' known answers.
-use Rattle.std.specs.Prelude.{◌≡◌, ℕ, false, List, [], ◌∷◌, nat_lt}
+use Rattle.std.specs.Prelude.{◌≡◌, ℕ, false, [], ◌∷◌, nat_lt}
 use Rattle.scale.specs.Question.{Meaning}
 use Rattle.asil.specs.Groups.{asil_test}
 use Rattle.dal.specs.Options.{dal_test}

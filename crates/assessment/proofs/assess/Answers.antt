@@ -5,9 +5,9 @@ use Rattle.assessment.specs.Reading.{read_question, assessed}
 use Rattle.assessment.proofs.Assessing.{told, answers_none, answers_some}
 use Rattle.assessment.proofs.assess.Goals as goal
 
-pub returns-in-default : goal.returns-in-default
-returns-in-default c =
-    let value : Refused ≡ assessed c.args.line.now = answers_none (read_question (words_of c.args.line.now)) c.in-default.ensures in
+pub returns-in_default : goal.returns-in_default
+returns-in_default c =
+    let value : Refused ≡ assessed c.args.line.now = answers_none (read_question (words_of c.args.line.now)) c.in_default.ensures in
     let t = told c.args.line.now Refused value in
     record { value = value; met = t.met; not_met = t.not_met; refused = t.refused }
 

@@ -1,4 +1,4 @@
-use Rattle.std.proofs.Common.{◌≡◌, true, arith, rules}
+use Rattle.std.proofs.Common.{◌≡◌, true, arith}
 use Rattle.std.proofs.lemmas.Bool.Decides.{nat_tests}
 use Rattle.scale.specs.Question.{all_at_most}
 use Rattle.scale.proofs.Forms.{bytes_fit}
@@ -6,6 +6,6 @@ use Rattle.scale.proofs.question.well_formed.Goals as goal
 
 pub returns : goal.returns
 returns c =
-    let bytes : all_at_most 255 c.args.rows.now ≡ true = bytes_fit c.args.rows.now c.type-inv.rows in
-    let filled = c.if-is-empty.ensures in
+    let bytes : all_at_most 255 c.args.rows.now ≡ true = bytes_fit c.args.rows.now c.type_inv.rows in
+    let filled = c.if-is_empty.ensures in
     grind (arith, nat_tests)

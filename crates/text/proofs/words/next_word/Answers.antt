@@ -14,10 +14,10 @@ returns-in-len1-up c =
     let fields = c.args.fields.now in
     let some : 0 < length fields = omega (arith, ltb-false) in
     let rest = past_rest fields some in
-    let front = c.cut-at.ensures.front ∙ ap (up_to 32) rest in
-    let back = c.cut-at.ensures.back ∙ ap (on_from 32) rest in
+    let front = c.cut_at.ensures.front ∙ ap (up_to 32) rest in
+    let back = c.cut_at.ensures.back ∙ ap (on_from 32) rest in
     record {
       cut = (some, front, back);
       words = fields_cut fields some ∙ sym (λ i. front i ∷ fields_of (back i));
-      less = omega (arith, c.cut-at.ensures.len, length-take (length fields - 1) (drop 1 fields), length-drop 1 fields);
+      less = omega (arith, c.cut_at.ensures.len, length-take (length fields - 1) (drop 1 fields), length-drop 1 fields);
     }

@@ -14,34 +14,34 @@ arm_says required levels rows r arm f is e = answer_decides (formed required lev
 
 pub returns-in-1 : goal.returns-in-1
 returns-in-1 c =
-    let f = sym c.well-formed-2.ensures ∙ c.if-not-well-formed.false in
-    let e = full_one c.args.levels.now c.one-reaches.result c.one-reaches.ensures in
+    let f = sym c.well_formed-2.ensures ∙ c.if-not-well_formed.false in
+    let e = full_one c.args.levels.now c.one_reaches.result c.one_reaches.ensures in
     record {
-      answers = arm_answers c.args.required c.args.levels.now c.args.rows.now c.one-reaches.result 1 f c.in-1.is e;
-      says = arm_says c.args.required c.args.levels.now c.args.rows.now c.one-reaches.result 1 f c.in-1.is e;
+      answers = arm_answers c.args.required c.args.levels.now c.args.rows.now c.one_reaches.result 1 f c.in-1.is e;
+      says = arm_says c.args.required c.args.levels.now c.args.rows.now c.one_reaches.result 1 f c.in-1.is e;
     }
 
 pub returns-in-2 : goal.returns-in-2
 returns-in-2 c =
-    let f = sym c.well-formed-2.ensures ∙ c.if-not-well-formed.false in
+    let f = sym c.well_formed-2.ensures ∙ c.if-not-well_formed.false in
     record {
-      answers = arm_answers c.args.required c.args.levels.now c.args.rows.now c.either-option.result 2 f c.in-2.is c.either-option.ensures;
-      says = arm_says c.args.required c.args.levels.now c.args.rows.now c.either-option.result 2 f c.in-2.is c.either-option.ensures;
+      answers = arm_answers c.args.required c.args.levels.now c.args.rows.now c.either_option.result 2 f c.in-2.is c.either_option.ensures;
+      says = arm_says c.args.required c.args.levels.now c.args.rows.now c.either_option.result 2 f c.in-2.is c.either_option.ensures;
     }
 
 pub returns-in-3 : goal.returns-in-3
 returns-in-3 c =
-    let f = sym c.well-formed-2.ensures ∙ c.if-not-well-formed.false in
+    let f = sym c.well_formed-2.ensures ∙ c.if-not-well_formed.false in
     record {
-      answers = arm_answers c.args.required c.args.levels.now c.args.rows.now c.either-option-in-3.result 3 f c.in-3.is c.either-option-in-3.ensures;
-      says = arm_says c.args.required c.args.levels.now c.args.rows.now c.either-option-in-3.result 3 f c.in-3.is c.either-option-in-3.ensures;
+      answers = arm_answers c.args.required c.args.levels.now c.args.rows.now c.either_option-in-3.result 3 f c.in-3.is c.either_option-in-3.ensures;
+      says = arm_says c.args.required c.args.levels.now c.args.rows.now c.either_option-in-3.result 3 f c.in-3.is c.either_option-in-3.ensures;
     }
 
-pub returns-in-default : goal.returns-in-default
-returns-in-default c =
-    let f = sym c.well-formed-2.ensures ∙ c.if-not-well-formed.false in
+pub returns-in_default : goal.returns-in_default
+returns-in_default c =
+    let f = sym c.well_formed-2.ensures ∙ c.if-not-well_formed.false in
     let four : c.args.required ≡ 4 = omega (arith, (formed_parts c.args.required c.args.levels.now c.args.rows.now f).top) in
     record {
-      answers = arm_answers c.args.required c.args.levels.now c.args.rows.now c.either-option-in-default.result 4 f four c.either-option-in-default.ensures;
-      says = arm_says c.args.required c.args.levels.now c.args.rows.now c.either-option-in-default.result 4 f four c.either-option-in-default.ensures;
+      answers = arm_answers c.args.required c.args.levels.now c.args.rows.now c.either_option-in_default.result 4 f four c.either_option-in_default.ensures;
+      says = arm_says c.args.required c.args.levels.now c.args.rows.now c.either_option-in_default.result 4 f four c.either_option-in_default.ensures;
     }

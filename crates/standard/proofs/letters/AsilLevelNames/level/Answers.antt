@@ -6,10 +6,10 @@ use Rattle.standard.proofs.letters.AsilLevelNames.level.Goals as goal
 pub returns-in-len1 : goal.returns-in-len1
 returns-in-len1 c =
     let one : length c.args.word.now ≡ 1 = search rules in
-    c.asil-letter.ensures ∙ ap (read_level asil_names) (ap (λ b. b ∷ []) c.from.ensures ∙ sym (one_byte c.args.word.now one))
+    c.asil_letter.ensures ∙ ap (read_level asil_names) (ap (λ b. b ∷ []) c.from.ensures ∙ sym (one_byte c.args.word.now one))
 
-pub returns-in-default : goal.returns-in-default
-returns-in-default c = asil_other c.args.word.now (λ e. search rules) (sym c.same.ensures ∙ c.if-same.false)
+pub returns-in_default : goal.returns-in_default
+returns-in_default c = asil_other c.args.word.now (λ e. search rules) (sym c.same.ensures ∙ c.if-same.false)
 
-pub returns-in-default·2 : goal.returns-in-default·2
-returns-in-default·2 c = asil_other c.args.word.now (λ e. search rules) (sym c.same.ensures ∙ c.if-same.false)
+pub returns-in_default-2 : goal.returns-in_default-2
+returns-in_default-2 c = asil_other c.args.word.now (λ e. search rules) (sym c.same.ensures ∙ c.if-same.false)
