@@ -1,14 +1,14 @@
 -- The test of a draft's laws says that its model is sound, and nothing else. Assumes nothing.
-use Rattle.std.proofs.Common.{◌≡◌, ℕ, ◌+◌, ◌*◌, ◌^◌, ◌<◌, ◌≤◌, min, max, Bool, true, false, cond, ◌&&◌, eqb, ltb, leb, List, [], ◌∷◌, length, get_or, Decides, sym, refl, ap, subst, ⊎_elim, arith}
-use Rattle.std.specs.List.{AllByRecursion as All}
+use Rattle.std.proofs.Common.{◌≡◌, ℕ, ◌+◌, ◌*◌, ◌^◌, ◌<◌, ◌≤◌, min, max, Bool, true, false, cond, eqb, ltb, leb, List, length, get_or, Decides, sym, refl, ap, subst, ⊎_elim, arith}
+use Rattle.std.specs.List.{AllByRecursion}
 use Rattle.std.proofs.lemmas.Bool.{eq-eqb, cases_Bool}
 use Rattle.std.proofs.lemmas.Bool.Decides.{nat_tests, Decides-and, Decides-like, Decides-ltb, Decides-eqb}
 use Rattle.std.proofs.ByRecursion.{Decides-by_and}
 use Rattle.cost.specs.declared.quote.Quote.{Quote}
 use Rattle.cost.specs.Totals.{Fits32}
 use Rattle.theory.specs.declared.part.Part.{Part}
-use Rattle.theory.specs.Model.{CutSet, Model, Ascending, SoundPart, SoundSet, Sound}
-use Rattle.theory.specs.Edits.{all_stand, ascending, Edit, edit_model, Handed}
+use Rattle.theory.specs.Model.{CutSet, Model, SoundPart, SoundSet, Sound}
+use Rattle.theory.specs.Edits.{all_stand, Edit, edit_model, Handed}
 use Rattle.theory.proofs.Soundness.{ascending_from, edit_sound}
 use Rattle.theory.proofs.CallsRight.{ascends_to}
 use Rattle.draft.specs.declared.draft.Draft.{Draft}
@@ -19,7 +19,7 @@ use Rattle.draft.specs.Drafts.{model}
 decides_leb : (a b : ℕ) → Decides (leb a b) (a ≤ b)
 decides_leb a b = ((λ e. grind (arith, nat_tests)), λ h. grind (arith, nat_tests))
 
-every_decides : {X : Type 0} (test : X → Bool) (P : X → Type 0) → ((x : X) → Decides (test x) (P x)) → (xs : List X) → Decides (every test xs) (All P xs)
+every_decides : {X : Type 0} (test : X → Bool) (P : X → Type 0) → ((x : X) → Decides (test x) (P x)) → (xs : List X) → Decides (every test xs) (AllByRecursion P xs)
 every_decides test P each xs = Decides-by_and test P (every test) each refl (λ _ _. refl) xs
 
 quote_decides : (q : Quote) → Decides (quote_fits q) (Fits32 q)
@@ -40,7 +40,7 @@ set_decides n s = Decides-like (set_lawful n s)
     (Decides-by_and (λ m. ltb m n) (λ m. m < n) (all_stand n) (λ m. Decides-ltb m n) refl (λ _ _. refl) s.members))
     (ascending_from s.members, ascends_to s.members))
 
-laws_decide : (parts : List Part) (sets : List CutSet) → Decides (lawful parts sets) (((length parts ≤ 64) × All SoundPart parts) × (length sets ≤ 128) × All (SoundSet (length parts)) sets)
+laws_decide : (parts : List Part) (sets : List CutSet) → Decides (lawful parts sets) (((length parts ≤ 64) × AllByRecursion SoundPart parts) × (length sets ≤ 128) × AllByRecursion (SoundSet (length parts)) sets)
 laws_decide parts sets = Decides-like (lawful parts sets)
     (λ h. (h.0.0, h.0.1, h.1))
     (λ h. ((h.0, h.1), h.2))

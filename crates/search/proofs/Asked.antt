@@ -1,7 +1,7 @@
 -- What a scale is asked of a set: who is apart, the rows, and the levels. Assumes nothing.
 use Rattle.std.proofs.Common.{◌≡◌, ℕ, zero, suc, ◌+◌, ◌-◌, ◌*◌, ◌%◌, ◌^◌, ◌<◌, ◌≤◌, Bool, true, false, cond, ◌&&◌, ltb, List, [], ◌∷◌, map, length, get_or, take, drop, Some, None, sym, refl, ap, ◌∙◌, subst, ⊎_elim, add-one, arith, pow_mono}
 use Rattle.std.proofs.lemmas.Nat.{one_shl}
-use Rattle.std.specs.List.{AllByRecursion as All}
+use Rattle.std.specs.List.{AllByRecursion}
 use Rattle.std.proofs.ByRecursion.{All-weaker}
 use Rattle.std.proofs.lemmas.List.{length-take-le, get_or_append_left, get_or-append_right, get_or-take, get_or-drop, drop-map, take_all}
 use Rattle.std.proofs.lemmas.Bool.{cases_Bool, cases_lt, cond-true, cond-false, and_from, and_parts, and_left, and_right, lt-ltb}
@@ -46,7 +46,7 @@ module _ (test : ℕ → Bool) (j bits : ℕ) (is : bits ≡ row_of test j) (few
   row_without asked told = omega (arith, is, row_next, cond-false (test j) (2 ^ j) 0 (sym asked ∙ told))
 
 -- two allocations that agree at the members give them the same levels
-pub same_levels : (xs ys : List ℕ) (ms : List ℕ) → All (λ m. get_or xs m 0 ≡ get_or ys m 0) ms → levels_of xs ms ≡ levels_of ys ms
+pub same_levels : (xs ys : List ℕ) (ms : List ℕ) → AllByRecursion (λ m. get_or xs m 0 ≡ get_or ys m 0) ms → levels_of xs ms ≡ levels_of ys ms
 same_levels xs ys [] agree = refl
 same_levels xs ys (m ∷ ms) agree = λ i. agree.0 i ∷ same_levels xs ys ms agree.1 i
 
@@ -104,6 +104,6 @@ module _ (means : Meaning) (m : Model) (sound : Sound m) (xs : List draft.CutSet
       let ms = (set_of s).members in
       let levels = filled m.parts (path_of path) in
       let room : length m.parts ≤ length path.levels = omega (arith, sound.few_parts) in
-      let agree : All (λ k. get_or path.levels k 0 ≡ get_or levels k 0) ms = All-weaker (λ k. k < length m.parts) (λ k. get_or path.levels k 0 ≡ get_or levels k 0) (λ k stands. sym (filled_at m.parts path path-tied room k stands)) ms (set_sound m sound xs value i s within is).standing in
+      let agree : AllByRecursion (λ k. get_or path.levels k 0 ≡ get_or levels k 0) ms = All-weaker (λ k. k < length m.parts) (λ k. get_or path.levels k 0 ≡ get_or levels k 0) (λ k stands. sym (filled_at m.parts path path-tied room k stands)) ms (set_sound m sound xs value i s within is).standing in
       let here : take (length ms) (get_or table i []) ≡ rows m.apart ms = subst (λ (t : CutSet). take (length t.members) (get_or table i []) ≡ rows m.apart t.members) (set_at m sound xs value i s within is (set_of s)) (rows-tied i (set_of s) (omega (arith, sets_count m sound xs value))) in
       λ t. answer means (set_of s).required (same_levels path.levels levels ms agree t) (here t)

@@ -1,6 +1,6 @@
 -- What the fronts of a path cost, and where a path advances to, one part at a time. Assumes nothing.
 use Rattle.std.proofs.Common.{◌≡◌, ℕ, zero, suc, ◌+◌, ◌-◌, ◌<◌, ◌≤◌, Bool, true, false, cond, ltb, ◌≢◌, List, [], ◌∷◌, ◌++◌, map, length, get_or, take, drop, set, Some, None, Option, sym, refl, ap, ◌∙◌, subst, ⊎_elim, add-one, arith}
-use Rattle.std.specs.List.{AllByRecursion as All}
+use Rattle.std.specs.List.{AllByRecursion}
 use Rattle.std.proofs.ByRecursion.{All-get_or}
 use Rattle.std.proofs.lemmas.List.{length-take-le, length-map, length-set, get_or-map, get_or-set_same, get_or-set_other, take_more, take_more_set, take-set-le}
 use Rattle.std.proofs.lemmas.Bool.{cases_eq, cond-true, cond-false}
@@ -18,7 +18,7 @@ use Rattle.search.specs.Ties.{PathTied, AmountsUpto}
 pub ceiling_at : (ps : List Part) (i : ℕ) (d : Part) → i < length ps → get_or (ceilings ps) i 0 ≡ (get_or ps i d).ceiling
 ceiling_at ps i d h = get_or-map (λ (p : Part). p.ceiling) ps i d 0 h
 
-pub ceiling_low : (ps : List Part) → All SoundPart ps → (i : ℕ) (d : Part) → i < length ps → get_or (ceilings ps) i 0 ≤ 4
+pub ceiling_low : (ps : List Part) → AllByRecursion SoundPart ps → (i : ℕ) (d : Part) → i < length ps → get_or (ceilings ps) i 0 ≤ 4
 ceiling_low ps sound i d h = omega (arith, ceiling_at ps i d h, (All-get_or SoundPart ps i d h sound).top)
 
 -- costs

@@ -1,7 +1,7 @@
 // Which cut set is first not met by the levels that the search is at.
 
 ghost use Rattle.std.specs.Prelude.{◌≡◌, ◌<◌, length, take};
-ghost use Rattle.std.specs.List.{AllByRecursion as All};
+ghost use Rattle.std.specs.List.{AllByRecursion};
 ghost use Rattle.scale.specs.Question.{answer};
 ghost use Rattle.theory.specs.Allocations.{levels_of, meets};
 ghost use Rattle.theory.specs.Walks.{filled};
@@ -17,7 +17,7 @@ use scale::scale::Scale;
 
 // Whether a set is met at the levels of all parts.
 fn is_met<S: Scale>(scale: &S, set: &CutSet, rows: &[u8; 8], levels: &[u8; 64]) -> bool
-    requires { All (λ m. m < 64) (set_of set.now).members }
+    requires { AllByRecursion (λ m. m < 64) (set_of set.now).members }
     ensures { result ≡ answer (S.Scale.means scale.now) (set_of set.now).required (levels_of levels.now (set_of set.now).members) (take (length (set_of set.now).members) rows.now) }
 {
     let members = set.members();

@@ -13,8 +13,5 @@ mod rows;
 // Which cut set is not met.
 mod asking;
 
-// One step of the walk.
-mod step;
-
-// A search: opening, working, the plan, handing back.
-// pub mod search;
+// To come: one step of the walk, which stands in step.rt.txt until its proof is whole, and then opening, working, the plan
+// and handing back.

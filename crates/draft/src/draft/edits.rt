@@ -38,6 +38,7 @@ impl Draft {
         self.parts.add(part_record(floor, ceiling, quotes));
         Ok(number as u32)
     }
+
     // Gives one part another floor and ceiling, and changes no other record.
     pub fn range(&mut self, number: u32, floor: u8, ceiling: u8) -> Result<(), Refusal>
         ensures does { (numbered result, model self.new) ≡ range_call (model self.old) number floor ceiling }

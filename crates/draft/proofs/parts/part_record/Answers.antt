@@ -1,5 +1,5 @@
 use Rattle.std.proofs.Common.{◌≡◌, length, refl, subst, arith, rules}
-use Rattle.std.specs.List.{AllByRecursion as All}
+use Rattle.std.specs.List.{AllByRecursion}
 use Rattle.std.proofs.ByRecursion.{All-more}
 use Rattle.std.proofs.lemmas.List.{take_all}
 use Rattle.cost.specs.Totals.{Fits32}
@@ -13,4 +13,4 @@ loop-quote-preserved c =
 pub returns : goal.returns
 returns c =
     let five : length c.args.quotes ≡ 5 = search rules in
-    record { value = refl; handed = (five, subst (All Fits32) (take_all c.loop-quote.quote-index c.args.quotes (omega arith)) c.loop-quote.invariant) }
+    record { value = refl; handed = (five, subst (AllByRecursion Fits32) (take_all c.loop-quote.quote-index c.args.quotes (omega arith)) c.loop-quote.invariant) }

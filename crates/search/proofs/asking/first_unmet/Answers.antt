@@ -8,11 +8,11 @@ use Rattle.search.specs.State.{path_of}
 use Rattle.search.proofs.Stored.{sets_count, sets_few, set_at, set_sound}
 use Rattle.search.proofs.Asked.{asked_meets, fails_at, passes_more, passes_all}
 use Rattle.search.proofs.asking.first_unmet.Goals as goal
-use Rattle.search.proofs.asking.first_unmet.Goals.{After-is-met}
+use Rattle.search.proofs.asking.first_unmet.Goals.{After-is_met}
 use Rattle.search.proofs.asking.first_unmet.Given as given
 
-pub is-met-requires : goal.is-met-requires
-is-met-requires g c =
+pub is_met-requires : goal.is_met-requires
+is_met-requires g c =
     let m = model c.args.draft.now in
     let lent = c.sets-set-items in
     let s = set_sound m lent.ensures.sound lent.result.now lent.ensures.value c.loop-i.i c.set-item.result c.loop-i-test.true c.set-item.is in
@@ -23,26 +23,26 @@ bounds-rows-i g c =
     let lent = c.sets-set-items in
     omega (arith, sets_few (model c.args.draft.now) lent.ensures.sound lent.result.now lent.ensures.value)
 
-pub overflow-cast-result : goal.overflow-cast-result
-overflow-cast-result g c =
+pub overflow_cast-result : goal.overflow_cast-result
+overflow_cast-result g c =
     let lent = c.sets-set-items in
     omega (arith, sets_few (model c.args.draft.now) lent.ensures.sound lent.result.now lent.ensures.value)
 
 -- the answer is whether the path meets the set
-asked : (g : given.Over) (c : After-is-met g) → c.is-met.result ≡ meets (g.S.Scale.means c.args.scale.now) (model c.args.draft.now) (filled (model c.args.draft.now).parts (path_of c.args.path.now)) (set_of c.set-item.result)
+asked : (g : given.Over) (c : After-is_met g) → c.is_met.result ≡ meets (g.S.Scale.means c.args.scale.now) (model c.args.draft.now) (filled (model c.args.draft.now).parts (path_of c.args.path.now)) (set_of c.set-item.result)
 asked g c =
     let lent = c.sets-set-items in
     let long : length c.args.path.now.levels ≡ 64 = search rules in
-    c.is-met.ensures
+    c.is_met.ensures
     ∙ asked_meets (g.S.Scale.means c.args.scale.now) (model c.args.draft.now) lent.ensures.sound lent.result.now lent.ensures.value c.loop-i.i c.set-item.result c.loop-i-test.true c.set-item.is c.args.rows.now c.args.path.now c.requires.rows c.requires.path long
 
-pub returns-then-not-is-met : goal.returns-then-not-is-met
-returns-then-not-is-met g c =
+pub returns-then-not-is_met : goal.returns-then-not-is_met
+returns-then-not-is_met g c =
     let m = model c.args.draft.now in
     let lent = c.sets-set-items in
     fails_at _ m.sets c.loop-i.i (set_of c.set-item.result) (omega (arith, sets_count m lent.ensures.sound lent.result.now lent.ensures.value))
     (set_at m lent.ensures.sound lent.result.now lent.ensures.value c.loop-i.i c.set-item.result c.loop-i-test.true c.set-item.is _)
-    c.loop-i.invariant (sym (asked g (goal.at.returns-then-not-is-met g c).After-is-met) ∙ c.if-not-is-met.true)
+    c.loop-i.invariant (sym (asked g (goal.at.returns-then-not-is_met g c).After-is_met) ∙ c.if-not-is_met.true)
 
 pub loop-i-preserved : goal.loop-i-preserved
 loop-i-preserved g c =
@@ -50,7 +50,7 @@ loop-i-preserved g c =
     let lent = c.sets-set-items in
     passes_more _ m.sets c.loop-i.i (set_of c.set-item.result) (omega (arith, sets_count m lent.ensures.sound lent.result.now lent.ensures.value))
     (set_at m lent.ensures.sound lent.result.now lent.ensures.value c.loop-i.i c.set-item.result c.loop-i-test.true c.set-item.is _)
-    c.loop-i.invariant (sym (asked g (goal.at.loop-i-preserved g c).After-is-met) ∙ c.if-not-is-met.false)
+    c.loop-i.invariant (sym (asked g (goal.at.loop-i-preserved g c).After-is_met) ∙ c.if-not-is_met.false)
 
 pub returns : goal.returns
 returns g c =

@@ -1,6 +1,6 @@
 use Rattle.search.proofs.asking.is_met.Goals as goal
 use Rattle.std.proofs.Common.{◌≡◌, ℕ, ◌-◌, ◌<◌, map, length, get_or, take, sym, refl, ap, ◌∙◌, subst, arith, length-set}
-use Rattle.std.specs.List.{AllByRecursion as All}
+use Rattle.std.specs.List.{AllByRecursion}
 use Rattle.std.proofs.ByRecursion.{All-get_or}
 use Rattle.scale.specs.Question.{answer}
 use Rattle.theory.specs.Allocations.{levels_of}
@@ -9,7 +9,7 @@ use Rattle.search.proofs.Filling.{filled_more, filled_all}
 
 pub bounds-levels-member : goal.bounds-levels-member
 bounds-levels-member g c =
-    All-get_or (λ m. m < 64) c.members-members.result.now c.loop-i.i 0 c.loop-i-test.true (subst (All (λ m. m < 64)) (sym c.members-members.ensures.value) c.requires)
+    All-get_or (λ m. m < 64) c.members-members.result.now c.loop-i.i 0 c.loop-i-test.true (subst (AllByRecursion (λ m. m < 64)) (sym c.members-members.ensures.value) c.requires)
 
 pub loop-i-preserved : goal.loop-i-preserved
 loop-i-preserved g c =

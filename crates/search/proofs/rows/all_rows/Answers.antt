@@ -11,7 +11,7 @@ loop-i-preserved c =
     let few = sets_few (model c.args.draft.now) c.sets-set-items.ensures.sound c.sets-set-items.result.now c.sets-set-items.ensures.value in (
       simp length-set c.loop-i.invariant.0,
       rows_more (model c.args.draft.now) c.sets-set-items.ensures.sound c.sets-set-items.result.now c.sets-set-items.ensures.value c.loop-i.i c.set-item.result c.loop-i-test.true c.set-item.is
-          c.loop-i.table c.rows-of.result c.members.result.now c.members.ensures.value (omega arith) c.rows-of.ensures c.loop-i.invariant.1,
+          c.loop-i.table c.rows_of.result c.members.result.now c.members.ensures.value (omega arith) c.rows_of.ensures c.loop-i.invariant.1,
     )
 
 pub returns : goal.returns

@@ -4,8 +4,8 @@ use Rattle.search.proofs.Asked.{row_fits, row_with, row_without}
 use Rattle.search.proofs.rows.row_of.Goals as goal
 use Rattle.search.proofs.rows.row_of.Goals.{then-apart, else-apart}
 
-pub overflow-add-bits : goal.overflow-add-bits
-overflow-add-bits c =
+pub overflow_add-bits : goal.overflow_add-bits
+overflow_add-bits c =
     let fits = row_fits (λ k. (model c.args.draft.now).apart c.args.part (get_or c.args.members.now k 0)) c.loop-j.j c.loop-j.bits c.loop-j.invariant (omega arith) in
     omega arith
 

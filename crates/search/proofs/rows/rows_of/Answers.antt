@@ -8,7 +8,7 @@ pub loop-i-preserved : goal.loop-i-preserved
 loop-i-preserved c =
     let ms = c.args.members.now in (
       simp length-set c.loop-i.invariant.0,
-      filled_more (row (model c.args.draft.now).apart ms) ms c.loop-i.table c.loop-i.i 0 c.row-of.result c.loop-i-test.true (omega arith) c.row-of.ensures c.loop-i.invariant.1,
+      filled_more (row (model c.args.draft.now).apart ms) ms c.loop-i.table c.loop-i.i 0 c.row_of.result c.loop-i-test.true (omega arith) c.row_of.ensures c.loop-i.invariant.1,
     )
 
 pub returns : goal.returns

@@ -1,4 +1,4 @@
-use Rattle.std.proofs.Common.{◌≡◌, vec_items, sym, refl, arith}
+use Rattle.std.proofs.Common.{vec_items, sym, refl, arith}
 use Rattle.theory.specs.Edits.{drop_set}
 use Rattle.draft.specs.Views.{set_of}
 use Rattle.std.proofs.lemmas.List.{length-map}
@@ -14,12 +14,12 @@ returns-then-number-len c =
     let does = sym ((calls.drop_set (model d) c.args.number).unknown (omega (arith, d.sets.ok.0, length-map (vec_items d.sets) set_of))) in
     record { does = does; kept = refl; history = brings _ _ _ (λ i. (does i).1) }
 
-pub invariant-of-self : goal.invariant-of-self
-invariant-of-self c =
+pub invariant_of-self : goal.invariant_of-self
+invariant_of-self c =
     let d = c.args.self.now in
     let does = set_dropped d (omega arith) c.remove.ensures.items in
     let sound = sound_after d (drop_set c.args.number) tt _ (λ i. (does i).1) in
-    (omega arith, (omega arith, (laws_from_sound _ sound, (sound.only_standing, tt))))
+    record { part_room = omega arith; set_room = omega arith; laws = laws_from_sound _ sound; standing = sound.only_standing }
 
 pub returns : goal.returns
 returns c =

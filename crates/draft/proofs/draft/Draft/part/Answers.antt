@@ -1,4 +1,4 @@
-use Rattle.std.proofs.Common.{◌≡◌, ◌<◌, ◌⊎◌, sym, refl, inl, inr, ⊎_elim, arith}
+use Rattle.std.proofs.Common.{◌<◌, ◌⊎◌, sym, refl, inl, inr, ⊎_elim, arith}
 use Rattle.theory.specs.Edits.{part}
 use Rattle.draft.specs.Drafts.{model}
 use Rattle.draft.proofs.Brought.{calls, brings}
@@ -6,8 +6,8 @@ use Rattle.draft.proofs.Edited.{part_added}
 use Rattle.draft.proofs.Lawful.{laws_from_sound, sound_after, none_yet}
 use Rattle.draft.proofs.draft.Draft.part.Goals as goal
 
-pub returns-then-number-ge-MOST-PARTS : goal.returns-then-number-ge-MOST-PARTS
-returns-then-number-ge-MOST-PARTS c =
+pub returns-then-number-ge-MOST_PARTS : goal.returns-then-number-ge-MOST_PARTS
+returns-then-number-ge-MOST_PARTS c =
     let d = c.args.self.now in
     let does = sym ((calls.part (model d) c.args.floor c.args.ceiling c.args.quotes).full (omega (arith, d.parts.records.ok.0))) in
     record { does = does; kept = refl; history = brings _ _ _ (λ i. (does i).1); apart_from_none = tt }
@@ -19,17 +19,17 @@ returns-then-ceiling-gt-HIGHEST c =
     let does = sym ((calls.part (model d) c.args.floor c.args.ceiling c.args.quotes).no_range (omega (arith, d.parts.records.ok.0)) bad) in
     record { does = does; kept = refl; history = brings _ _ _ (λ i. (does i).1); apart_from_none = tt }
 
-pub invariant-of-self : goal.invariant-of-self
-invariant-of-self c =
+pub invariant_of-self : goal.invariant_of-self
+invariant_of-self c =
     let d = c.args.self.now in
-    let does = part_added d c.count-number.ensures c.if-number-ge-MOST-PARTS.false c.if-ceiling-gt-HIGHEST.false c.if-floor-ceiling.false c.part-record.ensures.value c.add.ensures.items in
-    let sound = sound_after d (part c.args.floor c.args.ceiling c.args.quotes) c.part-record.ensures.handed _ (λ i. (does i).1) in
-    (omega arith, (omega arith, (laws_from_sound _ sound, (sound.only_standing, tt))))
+    let does = part_added d c.count-number.ensures c.if-number-ge-MOST_PARTS.false c.if-ceiling-gt-HIGHEST.false c.if-floor-ceiling.false c.part_record.ensures.value c.add.ensures.items in
+    let sound = sound_after d (part c.args.floor c.args.ceiling c.args.quotes) c.part_record.ensures.handed _ (λ i. (does i).1) in
+    record { part_room = omega arith; set_room = omega arith; laws = laws_from_sound _ sound; standing = sound.only_standing }
 
 pub returns : goal.returns
 returns c =
     let d = c.args.self.now in
-    let does = part_added d c.count-number.ensures c.if-number-ge-MOST-PARTS.false c.if-ceiling-gt-HIGHEST.false c.if-floor-ceiling.false c.part-record.ensures.value c.add.ensures.items in
+    let does = part_added d c.count-number.ensures c.if-number-ge-MOST_PARTS.false c.if-ceiling-gt-HIGHEST.false c.if-floor-ceiling.false c.part_record.ensures.value c.add.ensures.items in
     record {
       does = does;
       kept = tt;

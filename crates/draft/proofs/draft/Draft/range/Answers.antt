@@ -1,4 +1,4 @@
-use Rattle.std.proofs.Common.{◌≡◌, ◌<◌, ◌⊎◌, sym, refl, inl, inr, ⊎_elim, arith}
+use Rattle.std.proofs.Common.{◌<◌, ◌⊎◌, sym, refl, inl, inr, ⊎_elim, arith}
 use Rattle.theory.specs.Edits.{range}
 use Rattle.draft.specs.Drafts.{model}
 use Rattle.draft.proofs.Brought.{calls, brings}
@@ -19,12 +19,12 @@ returns-then-ceiling-gt-HIGHEST c =
     let does = sym ((calls.range (model d) c.args.number c.args.floor c.args.ceiling).no_range (omega (arith, d.parts.records.ok.0)) bad) in
     record { does = does; kept = refl; history = brings _ _ _ (λ i. (does i).1) }
 
-pub invariant-of-self : goal.invariant-of-self
-invariant-of-self c =
+pub invariant_of-self : goal.invariant_of-self
+invariant_of-self c =
     let d = c.args.self.now in
     let does = range_changed d c.count.ensures c.if-number-count.false c.if-ceiling-gt-HIGHEST.false c.if-floor-ceiling.false c.record-lent.ensures.value in
     let sound = sound_after d (range c.args.number c.args.floor c.args.ceiling) tt _ (λ i. (does i).1) in
-    (d.part_room, (d.set_room, (laws_from_sound _ sound, (sound.only_standing, tt))))
+    record { part_room = d.part_room; set_room = d.set_room; laws = laws_from_sound _ sound; standing = sound.only_standing }
 
 pub returns : goal.returns
 returns c =

@@ -4,4 +4,4 @@ use Rattle.draft.proofs.Lawful.{draft_sound}
 use Rattle.draft.proofs.draft.Draft.sets.Goals as goal
 
 pub returns : goal.returns
-returns c = record { value = ap (map set_of) c.as-slice.ensures.value; sound = draft_sound c.args.self.now }
+returns c = record { value = ap (map set_of) c.as_slice.ensures.value; sound = draft_sound c.args.self.now }
