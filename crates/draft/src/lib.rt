@@ -15,3 +15,7 @@ pub mod cut_set;
 
 // The draft, its edits and its reading calls.
 pub mod draft;
+
+// A draft worked by hand.
+#[cfg(test)]
+mod tests;
