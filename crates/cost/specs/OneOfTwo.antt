@@ -1,8 +1,8 @@
 -- Two kinds of rule as one: A and B are the rules, M and N their amounts.
 use Rattle.std.specs.Prelude.{Bool, true, false}
 use Rattle.cost.specs.declared.quote.Quote.{Quote}
-use Rattle.two_kinds.specs.declared.Either.{Either}
-use Rattle.two_kinds.specs.declared.Either.TheVariants.{Left, Right}
+use Rattle.either.specs.declared.Either.{Either}
+use Rattle.either.specs.declared.Either.TheVariants.{Left, Right}
 
 module _ {A B M N : Type 0} where
   -- Each rule starts with its own amount.

@@ -1,8 +1,8 @@
 -- Two kinds of rule as one: the laws, and the cost under each.
 use Rattle.std.specs.Prelude.{◌≡◌, Bool, ◌⊎◌, List, [], ◌∷◌, refl}
 use Rattle.std.proofs.Common.{true≢false, inl, inr}
-use Rattle.two_kinds.specs.declared.Either.{Either}
-use Rattle.two_kinds.specs.declared.Either.TheVariants.{Left, Right}
+use Rattle.either.specs.declared.Either.{Either}
+use Rattle.either.specs.declared.Either.TheVariants.{Left, Right}
 use Rattle.cost.specs.declared.quote.Quote.{Quote}
 use Rattle.cost.specs.Laws.{AtMost, CostLaws}
 use Rattle.cost.specs.Totals.{cost_of}

@@ -1,7 +1,7 @@
 -- The text of an amount, as bytes.
 use Rattle.std.specs.Prelude.{ℕ, List, [], ◌∷◌, ◌++◌, decimal}
-use Rattle.two_kinds.specs.declared.Either.{Either}
-use Rattle.two_kinds.specs.declared.Either.TheVariants.{Left, Right}
+use Rattle.either.specs.declared.Either.{Either}
+use Rattle.either.specs.declared.Either.TheVariants.{Left, Right}
 
 -- An amount of `sum` or `dearest` is written in decimal.
 abbrev pub number_text : ℕ → List ℕ

@@ -1,8 +1,8 @@
 -- The word of each rule in a sheet.
 use Rattle.std.specs.Prelude.{◌≡◌, ℕ, cond, List, Some, None, codes, Option}
 use Rattle.std.specs.Str.{bytes_eq}
-use Rattle.two_kinds.specs.declared.Either.{Either}
-use Rattle.two_kinds.specs.declared.Either.TheVariants.{Left, Right}
+use Rattle.either.specs.declared.Either.{Either}
+use Rattle.either.specs.declared.Either.TheVariants.{Left, Right}
 use Rattle.cost.specs.declared.sum.Sum.{Sum}
 use Rattle.cost.specs.declared.dearest.Dearest.{Dearest}
 use Rattle.cost.specs.declared.staged.Staged.{Staged}

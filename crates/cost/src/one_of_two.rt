@@ -4,7 +4,7 @@ ghost use Rattle.cost.specs.Sides.{either_laws};
 
 use crate::quote::Quote;
 use crate::rule::CostRule;
-use two_kinds::Either;
+use either::Either;
 
 impl<A: CostRule, B: CostRule> CostRule for Either<A, B> {
     type Amount = Either<A::Amount, B::Amount>;

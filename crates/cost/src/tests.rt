@@ -9,7 +9,7 @@ use crate::text::*;
 use crate::total::*;
 use crate::words::*;
 use std::test::Fail;
-use two_kinds::Either;
+use either::Either;
 
 // Two quotes, each a price and weeks; then their cost under `sum`, `dearest` and `staged`.
 const TABLE: [([(u32, u32); 2], u64, u32, (u64, u64)); 4] = [

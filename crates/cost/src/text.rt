@@ -7,7 +7,7 @@ use crate::rule::CostRule;
 use crate::staged::Staged;
 use crate::sum::Sum;
 use std::alloc::{AllocError, Global};
-use two_kinds::Either;
+use either::Either;
 
 // Rules whose amounts can be printed.
 pub trait AmountText: CostRule {

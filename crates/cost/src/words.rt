@@ -7,7 +7,7 @@ use crate::dearest::Dearest;
 use crate::rule::CostRule;
 use crate::staged::Staged;
 use crate::sum::Sum;
-use two_kinds::Either;
+use either::Either;
 
 // Rules that a sheet can name, no two by one word.
 pub trait RuleWord: CostRule {

@@ -1,14 +1,14 @@
 // A value of either of two kinds of scale is a scale, by its own kind's meaning.
 
 ghost use Rattle.std.specs.Prelude.{◌≡◌};
-ghost use Rattle.scale.specs.Sides.{by_side};
+ghost use Rattle.either.specs.Either.{either};
 ghost use Rattle.std.proofs.Common.{rules};
 
 use crate::scale::Scale;
-use two_kinds::Either;
+use either::Either;
 
 impl<A: Scale, B: Scale> Scale for Either<A, B> {
-    ghost means = { by_side A.Scale.means B.Scale.means };
+    ghost means = { either A.Scale.means B.Scale.means };
 
     ghost laws = { Prim.search rules };
 

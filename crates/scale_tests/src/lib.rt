@@ -9,7 +9,7 @@ mod tests {
     use standard::letters::LevelNames;
     use standard::words::{Standard, standard, word};
     use std::process::Abort;
-    use two_kinds::Either;
+    use either::Either;
 
     // A required level, the members' levels, their rows, and whether that is met.
     #[derive(Clone, Copy)]

@@ -1,8 +1,8 @@
 -- The scales of the two standards by the words that name them. Assumes nothing.
 use Rattle.std.specs.Prelude.{◌≡◌, cond, Some, None, codes, Option}
 use Rattle.std.specs.Str.{bytes_eq}
-use Rattle.two_kinds.specs.declared.Either.{Either}
-use Rattle.two_kinds.specs.declared.Either.TheVariants.{Left, Right}
+use Rattle.either.specs.declared.Either.{Either}
+use Rattle.either.specs.declared.Either.TheVariants.{Left, Right}
 use Rattle.asil.specs.declared.groups.Asil.{Asil}
 use Rattle.dal.specs.declared.options.Dal.{Dal}
 use Rattle.standard.specs.Letters.{Word}

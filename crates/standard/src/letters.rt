@@ -2,7 +2,7 @@
 
 ghost use Rattle.std.specs.Prelude.{◌≡◌, List, [], ◌∷◌};
 ghost use Rattle.std.specs.Option.{option_map};
-ghost use Rattle.scale.specs.Sides.{by_side};
+ghost use Rattle.either.specs.Either.{either};
 ghost use Rattle.standard.specs.Letters.{Word, Spelling, printed, read_level, asil_names, dal_names};
 ghost use Rattle.standard.specs.Spellings.{asil_spelling, dal_spelling};
 ghost use Rattle.std.proofs.Common.{rules};
@@ -11,7 +11,7 @@ use asil::groups::Asil;
 use dal::options::Dal;
 use scale::scale::Scale;
 use text::words::same;
-use two_kinds::Either;
+use either::Either;
 
 pub trait LevelNames: Scale {
     // The names of the levels from 0 up.
@@ -106,7 +106,7 @@ impl LevelNames for Dal {
 }
 
 impl<A: LevelNames, B: LevelNames> LevelNames for Either<A, B> {
-    ghost names = { by_side A.LevelNames.names B.LevelNames.names };
+    ghost names = { either A.LevelNames.names B.LevelNames.names };
 
     ghost spelling = { Prim.search rules };
 

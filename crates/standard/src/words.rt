@@ -6,7 +6,7 @@ ghost use Rattle.standard.specs.Standards.{standard_of, standard_word, WordsInve
 use asil::groups::Asil;
 use dal::options::Dal;
 use text::words::same;
-use two_kinds::Either;
+use either::Either;
 
 pub type Standard = Either<Asil, Dal>;
 
