@@ -4,10 +4,10 @@ ghost use Rattle.std.specs.Prelude.{◌≡◌};
 ghost use Rattle.scale.specs.Question.{bit, apart, all_at_most, formed};
 
 // Levels go from 0 to this.
-const HIGHEST: u8 = 4;
+pub const HIGHEST: u8 = 4;
 
 // A cut set has one to this many members, a bit of a row for each.
-const MOST_MEMBERS: usize = 8;
+pub const MOST_MEMBERS: usize = 8;
 
 // Whether the question is one that a scale answers by its meaning.
 pub fn well_formed(required: u8, levels: &[u8], rows: &[u8]) -> bool
