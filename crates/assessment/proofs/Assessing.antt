@@ -1,5 +1,5 @@
 -- What a line is answered with, by what it asks. Assumes nothing.
-use Rattle.std.proofs.Common.{◌≡◌, ℕ, Bool, true, false, cond, List, length, Some, None, Option, sym, refl, ap, ◌∙◌, subst, arith}
+use Rattle.std.proofs.Common.{◌≡◌, ◌↔◌, ℕ, Bool, true, false, cond, List, length, Some, None, Option, sym, refl, ap, ◌∙◌, subst, arith}
 use Rattle.std.specs.Option.{option_map}
 use Rattle.std.proofs.lemmas.Bool.{true≢false, false≢true}
 use Rattle.scale.specs.Question.{answer}
@@ -8,7 +8,7 @@ use Rattle.text.specs.Text.{words_of}
 use Rattle.assessment.specs.declared.Assessment.{Assessment}
 use Rattle.assessment.specs.declared.Assessment.TheVariants.{Met, NotMet, Refused}
 use Rattle.assessment.specs.Scales.{meaning_of}
-use Rattle.assessment.specs.Question.{Question, WellFormed, render, Asks, AsksNothing, Exactly}
+use Rattle.assessment.specs.Question.{Question, WellFormed, render, Asks, AsksNothing}
 use Rattle.assessment.specs.Reading.{read_question, rows_of, asked, answered, assessed}
 use Rattle.assessment.proofs.Declarations.{rows_declare, only_rows}
 use Rattle.assessment.proofs.Words.{some_none}
@@ -20,9 +20,9 @@ answer_to q = answer (meaning_of q.standard) q.required q.members (rows_of q.pai
 
 -- an answer, by what the line asks
 pub record Told (line : List ℕ) (r : Assessment) : Type 0 where
-  pub met : Exactly (r ≡ Met) (Asks line true)
-  pub not_met : Exactly (r ≡ NotMet) (Asks line false)
-  pub refused : Exactly (r ≡ Refused) (AsksNothing line)
+  pub met : (r ≡ Met) ↔ Asks line true
+  pub not_met : (r ≡ NotMet) ↔ Asks line false
+  pub refused : (r ≡ Refused) ↔ AsksNothing line
 
 module _ (line : List ℕ) where
   -- a line that is read as a question asks it

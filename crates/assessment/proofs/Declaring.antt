@@ -1,6 +1,7 @@
 -- Rows with the bits of the pairs that are declared. Assumes nothing.
-use Rattle.std.proofs.Common.{◌≡◌, ℕ, zero, suc, ◌*◌, ◌%◌, ◌^◌, ◌<◌, Bool, true, false, ◌&&◌, ◌||◌, eqb, List, [], ◌∷◌, ◌++◌, length, get_or, set, replicate, Some, None, Option, sym, refl, ap, ◌∙◌, subst, ⊎_elim, append_assoc, append-nil, arith}
+use Rattle.std.proofs.Common.{◌≡◌, ℕ, zero, suc, ◌*◌, ◌%◌, ◌^◌, ◌<◌, ◌&&◌, ◌||◌, eqb, List, [], ◌∷◌, ◌++◌, length, get_or, set, replicate, Some, None, Option, sym, refl, ap, ◌∙◌, subst, ⊎_elim, append_assoc, append-nil, arith}
 use lib.Bits.{bit_or}
+use Rattle.std.proofs.Math.Bool.{or_assoc, or-false, and_comm}
 use Rattle.std.proofs.lemmas.Nat.{one_shl, or_lt, mod_below}
 use Rattle.std.specs.Option.{option_map}
 use Rattle.std.proofs.lemmas.List.FromFn.{fill_by_all}
@@ -10,23 +11,9 @@ use Rattle.std.proofs.lemmas.Bool.Decides.{same_from_decides, Decides-eqb, Decid
 use Rattle.scale.specs.Question.{bit}
 use Rattle.scale.specs.Rows.{row_of}
 use Rattle.scale.proofs.Bits.{bit_of_or, bit_pow, bit_none, bit_row_of, row_below, same_bits}
-use Rattle.text.specs.Text.{fields_of}
+use Rattle.text.specs.Text.{Word}
 use Rattle.assessment.specs.Question.{Pair}
 use Rattle.assessment.specs.Reading.{and_then, each, read_pair, is_of, declared, rows_of}
-
-or_assoc : (a b c : Bool) → ((a || b) || c) ≡ (a || (b || c))
-or_assoc true b c = refl
-or_assoc false b c = refl
-
-or_none : (b : Bool) → b ≡ (b || false)
-or_none true = refl
-or_none false = refl
-
-and_comm : (a b : Bool) → (a && b) ≡ (b && a)
-and_comm true true = refl
-and_comm true false = refl
-and_comm false true = refl
-and_comm false false = refl
 
 eqb_comm : (a b : ℕ) → eqb a b ≡ eqb b a
 eqb_comm a b = same_from_decides (eqb a b) (eqb b a) (Decides-eqb a b) (Decides-like (eqb b a) sym sym (Decides-eqb b a))
@@ -47,7 +34,7 @@ with_bit_at rows i j k b hi hj hb =
     ∙ (λ n. bit (get_or rows (sym is n) 0) b || (sym (eq-eqb i k (sym is)) n && eqb j b)))
     (λ (differ : k ≡ i → ⊥).
     ap (λ n. bit n b) (get_or-set_other rows i k (bit_or row (1 * 2 ^ j % 256)) 0 differ)
-    ∙ or_none (bit (get_or rows k 0) b)
+    ∙ sym (or-false (bit (get_or rows k 0) b))
     ∙ ap (λ t. bit (get_or rows k 0) b || (t && eqb j b)) (sym (ne_eqb i k (λ e. differ (sym e)))))
     (cases_eq k i)
 
@@ -81,7 +68,7 @@ pub record RowsHold (pairs : List Pair) (rows : List ℕ) : Type 0 where
   pub bits : (k b : ℕ) → k < 8 → b < 8 → bit (get_or rows k 0) b ≡ declared pairs k b
 
 declared_push : (pairs : List Pair) (pair : Pair) (k b : ℕ) → declared (pairs ++ pair ∷ []) k b ≡ (declared pairs k b || is_of pair k b)
-declared_push [] pair k b = sym (or_none (is_of pair k b))
+declared_push [] pair k b = or-false (is_of pair k b)
 declared_push (p ∷ ps) pair k b = ap (λ t. is_of p k b || t) (declared_push ps pair k b) ∙ sym (or_assoc (is_of p k b) (declared ps k b) (is_of pair k b))
 
 -- eight such rows are the rows of those pairs
@@ -91,11 +78,11 @@ rows_are pairs rows h =
     (λ k less. same_bits (get_or rows k 0) (row_of (declared pairs k) 8) (h.bytes k) (row_below (declared pairs k) 8)
     (λ b hb. h.bits k b less hb ∙ sym (bit_row_of (declared pairs k) 8 b (omega arith) hb ∙ ap (λ t. t && declared pairs k b) (lt-ltb b 8 hb))))
 
--- the pairs of the fields, of which some are read already
-pub record ReadSome (n : ℕ) (fields rows left : List ℕ) : Type 0 where
+-- the pairs that words name, of which some are read already
+pub record ReadSome (n : ℕ) (words : List Word) (rows : List ℕ) (left : List Word) : Type 0 where
   pub seen : List Pair
   pub held : RowsHold seen rows
-  pub reads : each (read_pair n) (fields_of fields) ≡ option_map (λ pairs. seen ++ pairs) (each (read_pair n) (fields_of left))
+  pub reads : each (read_pair n) words ≡ option_map (λ pairs. seen ++ pairs) (each (read_pair n) left)
 
 mapped_same : {T : Type 0} (o : Option (List T)) → o ≡ option_map (λ (xs : List T). [] ++ xs) o
 mapped_same None = refl
@@ -106,22 +93,22 @@ zeros zero k = refl
 zeros (suc n) zero = refl
 zeros (suc n) (suc k) = zeros n k
 
-pub read_none : (n : ℕ) (fields : List ℕ) → ReadSome n fields (replicate 8 0) fields
-read_none n fields = record {
+pub read_none : (n : ℕ) (words : List Word) → ReadSome n words (replicate 8 0) words
+read_none n words = record {
   seen = [];
   held = record { eight = refl; bytes = λ k. subst (λ m. m < 256) (sym (zeros 8 k)) (omega arith); bits = λ k b hk hb. ap (λ m. bit m b) (zeros 8 k) ∙ bit_none b hb };
-  reads = mapped_same (each (read_pair n) (fields_of fields));
+  reads = mapped_same (each (read_pair n) words);
 }
 
 push_cons : {T : Type 0} (seen : List T) (x : T) (o : Option (List T)) → option_map (λ (xs : List T). seen ++ xs) (and_then o (λ xs. Some (x ∷ xs))) ≡ option_map (λ (xs : List T). (seen ++ x ∷ []) ++ xs) o
 push_cons seen x None = refl
 push_cons seen x (Some xs) = ap Some (sym (append_assoc seen (x ∷ []) xs))
 
-module _ (n : ℕ) (fields rows left : List ℕ) (s : ReadSome n fields rows left) where
-  pub read_more : (word after rows' : List ℕ) (i j : ℕ) → fields_of left ≡ word ∷ fields_of after → Some (i, j) ≡ read_pair n word → length rows' ≡ 8 → ((k : ℕ) → get_or rows' k 0 < 256) → ((k b : ℕ) → k < 8 → b < 8 → bit (get_or rows' k 0) b ≡ (bit (get_or rows k 0) b || is_of (i, j) k b)) → ReadSome n fields rows' after
-  read_more word after rows' i j words pair eight bytes bits =
-      let next : each (read_pair n) (fields_of left) ≡ and_then (each (read_pair n) (fields_of after)) (λ pairs. Some ((i, j) ∷ pairs)) =
-      ap (each (read_pair n)) words ∙ ap (λ o. and_then o (λ p. and_then (each (read_pair n) (fields_of after)) (λ pairs. Some (p ∷ pairs)))) (sym pair) in
+module _ (n : ℕ) (words : List Word) (rows : List ℕ) (left : List Word) (s : ReadSome n words rows left) where
+  pub read_more : (word : Word) (after : List Word) (rows' : List ℕ) (i j : ℕ) → left ≡ word ∷ after → Some (i, j) ≡ read_pair n word → length rows' ≡ 8 → ((k : ℕ) → get_or rows' k 0 < 256) → ((k b : ℕ) → k < 8 → b < 8 → bit (get_or rows' k 0) b ≡ (bit (get_or rows k 0) b || is_of (i, j) k b)) → ReadSome n words rows' after
+  read_more word after rows' i j next pair eight bytes bits =
+      let rest : each (read_pair n) left ≡ and_then (each (read_pair n) after) (λ pairs. Some ((i, j) ∷ pairs)) =
+      ap (each (read_pair n)) next ∙ ap (λ o. and_then o (λ p. and_then (each (read_pair n) after) (λ pairs. Some (p ∷ pairs)))) (sym pair) in
       record {
         seen = s.seen ++ (i, j) ∷ [];
         held = record {
@@ -129,10 +116,10 @@ module _ (n : ℕ) (fields rows left : List ℕ) (s : ReadSome n fields rows lef
           bytes = bytes;
           bits = λ k b hk hb. bits k b hk hb ∙ ap (λ t. t || is_of (i, j) k b) (s.held.bits k b hk hb) ∙ sym (declared_push s.seen (i, j) k b);
         };
-        reads = s.reads ∙ ap (option_map (λ pairs. s.seen ++ pairs)) next ∙ push_cons s.seen (i, j) (each (read_pair n) (fields_of after));
+        reads = s.reads ∙ ap (option_map (λ pairs. s.seen ++ pairs)) rest ∙ push_cons s.seen (i, j) (each (read_pair n) after);
       }
 
-  pub read_all : fields_of left ≡ [] → Some rows ≡ option_map (λ pairs. rows_of pairs 8) (each (read_pair n) (fields_of fields))
-  read_all words =
+  pub read_all : left ≡ [] → Some rows ≡ option_map (λ pairs. rows_of pairs 8) (each (read_pair n) words)
+  read_all none =
       ap Some (rows_are s.seen rows s.held ∙ ap (λ pairs. rows_of pairs 8) (sym (append-nil s.seen)))
-      ∙ sym (ap (option_map (λ pairs. rows_of pairs 8)) (s.reads ∙ ap (λ ws. option_map (λ pairs. s.seen ++ pairs) (each (read_pair n) ws)) words))
+      ∙ sym (ap (option_map (λ pairs. rows_of pairs 8)) (s.reads ∙ ap (λ ws. option_map (λ pairs. s.seen ++ pairs) (each (read_pair n) ws)) none))

@@ -75,7 +75,3 @@ pub record Asks (line : List ℕ) (met : Bool) : Type 0 where
 -- a line writes no well-formed question
 abbrev pub AsksNothing : List ℕ → Type 0
 AsksNothing line = (question : Question) → WellFormed question → line ≢ render question
-
--- one holds exactly when the other does
-abbrev pub Exactly : Type 0 → Type 0 → Type 0
-Exactly P Q = (P → Q) × (Q → P)

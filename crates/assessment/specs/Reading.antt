@@ -1,5 +1,5 @@
 -- What a line is read as, word by word, and what it is answered with. Assumes nothing.
-use Rattle.std.specs.Prelude.{ℕ, ◌-◌, Bool, false, cond, ◌&&◌, ◌||◌, List, [], ◌∷◌, map, length, Some, None, codes, Option, ◌==◌, nat_le, nat_lt}
+use Rattle.std.specs.Prelude.{ℕ, ◌-◌, Bool, false, if◌then◌else◌, ◌&&◌, ◌||◌, List, [], ◌∷◌, map, length, Some, None, codes, Option, ◌==◌, nat_le, nat_lt}
 use Rattle.std.specs.List.{range_with_len}
 use Rattle.std.specs.Str.{bytes_eq}
 use Rattle.standard.specs.Letters.{read_level}
@@ -24,30 +24,30 @@ each read (w ∷ ws) = and_then (read w) (λ x. and_then (each read ws) (λ xs. 
 
 -- the member, among n, whose number a digit is
 abbrev pub read_member : ℕ → ℕ → Option ℕ
-read_member n c = cond (nat_le 48 c && nat_lt (c - 48) n) (Some (c - 48)) None
+read_member n c = if nat_le 48 c && nat_lt (c - 48) n then Some (c - 48) else None
 
 -- two different members
 abbrev pub two_members : Option ℕ → Option ℕ → Option Pair
-two_members i j = and_then i (λ i. and_then j (λ j. cond (i == j) None (Some (i, j))))
+two_members i j = and_then i (λ i. and_then j (λ j. if i == j then None else Some (i, j)))
 
 -- the pair that a word is: a member, a dash and another member
 abbrev pub read_pair : ℕ → Word → Option Pair
 read_pair n [] = None
 read_pair n (i ∷ []) = None
 read_pair n (i ∷ dash ∷ []) = None
-read_pair n (i ∷ dash ∷ j ∷ []) = cond (dash == 45) (two_members (read_member n i) (read_member n j)) None
+read_pair n (i ∷ dash ∷ j ∷ []) = if dash == 45 then two_members (read_member n i) (read_member n j) else None
 read_pair n (i ∷ dash ∷ j ∷ more ∷ rest) = None
 
 -- the levels that the words before the slash name, and the words after it
 abbrev pub up_to_slash : List Word → List Word → Option (List ℕ × List Word)
 up_to_slash names [] = None
 up_to_slash names (w ∷ ws) =
-    cond (bytes_eq w (codes "/")) (Some ([], ws))
-    (and_then (read_level names w) (λ level. and_then (up_to_slash names ws) (λ found. Some (level ∷ found.0, found.1))))
+    if bytes_eq w (codes "/") then Some ([], ws)
+    else and_then (read_level names w) (λ level. and_then (up_to_slash names ws) (λ found. Some (level ∷ found.0, found.1)))
 
 -- what was found, if it is one to eight levels
 abbrev pub one_to_eight : List ℕ × List Word → Option (List ℕ × List Word)
-one_to_eight found = cond (nat_lt 0 (length found.0) && nat_le (length found.0) 8) (Some found) None
+one_to_eight found = if nat_lt 0 (length found.0) && nat_le (length found.0) 8 then Some found else None
 
 -- the levels of one to eight members, and the words after the slash
 abbrev pub read_members : List Word → List Word → Option (List ℕ × List Word)
@@ -85,7 +85,7 @@ asked question = (question.standard, question.required, question.members, rows_o
 abbrev pub answered : Option Question → Assessment
 answered None = Refused
 answered (Some question) =
-    cond (answer (meaning_of question.standard) question.required question.members (rows_of question.pairs (length question.members))) Met NotMet
+    if answer (meaning_of question.standard) question.required question.members (rows_of question.pairs (length question.members)) then Met else NotMet
 
 -- what a line is answered with
 abbrev pub assessed : List ℕ → Assessment

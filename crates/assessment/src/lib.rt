@@ -4,8 +4,8 @@
 mod question;
 mod reading;
 
-ghost use Rattle.std.specs.Prelude.{◌≡◌, true, false, Some};
-ghost use Rattle.assessment.specs.Question.{Asks, AsksNothing, Exactly};
+ghost use Rattle.std.specs.Prelude.{◌≡◌, ◌↔◌, true, false, Some};
+ghost use Rattle.assessment.specs.Question.{Asks, AsksNothing};
 ghost use Rattle.assessment.specs.Reading.{assessed};
 ghost use Rattle.assessment.specs.Texts.{text_of};
 
@@ -44,9 +44,9 @@ impl fmt::Display for Assessment {
 // refused.
 pub fn assess(line: &[u8]) -> Assessment
     ensures value { result ≡ assessed line.now }
-    ensures met { Exactly (result ≡ Assessment.Met) (Asks line.now true) }
-    ensures not_met { Exactly (result ≡ Assessment.NotMet) (Asks line.now false) }
-    ensures refused { Exactly (result ≡ Assessment.Refused) (AsksNothing line.now) }
+    ensures met { (result ≡ Assessment.Met) ↔ Asks line.now true }
+    ensures not_met { (result ≡ Assessment.NotMet) ↔ Asks line.now false }
+    ensures refused { (result ≡ Assessment.Refused) ↔ AsksNothing line.now }
 {
     let Some(question) = read_question(line) else {
         return Assessment::Refused;

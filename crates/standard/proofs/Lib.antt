@@ -1,1 +1,2 @@
+mod LevelWords
 pub mod WordsInverse

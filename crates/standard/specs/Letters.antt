@@ -1,5 +1,5 @@
 -- The letters of the levels: how a level is printed, and how a word is read as a level. Assumes nothing.
-use Rattle.std.specs.Prelude.{◌≡◌, ℕ, zero, suc, ◌<◌, ◌≤◌, cond, List, [], ◌∷◌, length, is_some, Some, None, codes, Option, nat_le}
+use Rattle.std.specs.Prelude.{◌≡◌, ℕ, zero, suc, ◌<◌, ◌≤◌, if◌then◌else◌, List, [], ◌∷◌, length, is_some, Some, None, codes, Option, nat_le}
 use Rattle.std.specs.Option.{option_map}
 use Rattle.std.specs.List.{AllByRecursion}
 use Rattle.std.specs.Str.{bytes_eq}
@@ -24,7 +24,7 @@ printed (name ∷ names) (suc level) = printed names level
 -- what a word is read as: the level whose name it is, or none
 abbrev pub read_level : List Word → Word → Option ℕ
 read_level [] word = None
-read_level (name ∷ names) word = cond (bytes_eq word name) (Some 0) (option_map suc (read_level names word))
+read_level (name ∷ names) word = if bytes_eq word name then Some 0 else option_map suc (read_level names word)
 
 -- a capital letter
 abbrev pub Capital : ℕ → Type 0

@@ -1,5 +1,5 @@
 -- The scales of the two standards by the words that name them. Assumes nothing.
-use Rattle.std.specs.Prelude.{◌≡◌, cond, Some, None, codes, Option}
+use Rattle.std.specs.Prelude.{◌≡◌, if◌then◌else◌, Some, None, codes, Option}
 use Rattle.std.specs.Str.{bytes_eq}
 use Rattle.either.specs.declared.Either.{Either}
 use Rattle.either.specs.declared.Either.TheVariants.{Left, Right}
@@ -24,7 +24,7 @@ standard_word (Right d) = codes "dal"
 
 -- the scale that a word names, or none
 abbrev pub standard_of : Word → Option Standard
-standard_of word = cond (bytes_eq word (codes "asil")) (Some automotive) (cond (bytes_eq word (codes "dal")) (Some avionics) None)
+standard_of word = if bytes_eq word (codes "asil") then Some automotive else if bytes_eq word (codes "dal") then Some avionics else None
 
 -- the word that names a scale is read as that scale, and a word that is read as a scale names it
 pub record WordsInverse : Type 0 where

@@ -5,7 +5,6 @@ ghost use Rattle.standard.specs.Standards.{standard_of, standard_word, WordsInve
 
 use asil::groups::Asil;
 use dal::options::Dal;
-use text::words::same;
 use either::Either;
 
 pub type Standard = Either<Asil, Dal>;
@@ -15,12 +14,10 @@ pub fn standard(word: &[u8]) -> Option<Standard>
     ensures value { result ≡ standard_of word.now }
     ensures inverse { WordsInverse }
 {
-    if same(word, b"asil") {
-        Some(Either::Left(Asil))
-    } else if same(word, b"dal") {
-        Some(Either::Right(Dal))
-    } else {
-        None
+    match word {
+        b"asil" => Some(Either::Left(Asil)),
+        b"dal" => Some(Either::Right(Dal)),
+        _ => None,
     }
 }
 

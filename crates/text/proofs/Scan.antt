@@ -1,41 +1,30 @@
--- A scan for a byte, from the front. Assumes nothing.
-use Rattle.std.proofs.Common.{◌≡◌, ℕ, ◌+◌, ◌<◌, ◌≤◌, true, false, cond, eqb, List, [], ◌∷◌, ◌++◌, length, get_or, take, drop, sym, ap, ◌∙◌, append_assoc, append-nil, arith, length-take}
-use Rattle.std.proofs.lemmas.List.{take_more, drop_more, drop_all}
+-- What stands before the first place of a byte, and from it on. Assumes nothing.
+use Rattle.std.proofs.Common.{◌≡◌, ℕ, suc, ◌+◌, ◌≤◌, Bool, true, false, cond, ◌==◌, nat_lt, List, [], ◌∷◌, length, take, drop, Option, Some, None, ap, refl, sym, ◌∙◌, ltb-false, arith}
+use Rattle.std.specs.Option.{unwrap_or}
+use Rattle.std.specs.List.{position_or_len}
+use Rattle.std.proofs.lemmas.List.Recursion.{is_position_or_len}
 use Rattle.text.specs.Text.{up_to, on_from}
 
--- none of the first i bytes is b
-pub record Scanned (b : ℕ) (s : List ℕ) (i : ℕ) : Type 0 where
-  pub front : up_to b s ≡ take i s ++ up_to b (drop i s)
-  pub back : on_from b s ≡ on_from b (drop i s)
+pub up_to_short : (b : ℕ) (s : List ℕ) → length (up_to b s) ≤ length s
+up_to_short b [] = omega arith
+up_to_short b (x ∷ xs) = elim (x == b) as (λ t. length (cond t [] (x ∷ up_to b xs)) ≤ suc (length xs)) [ true ↦ omega arith | false ↦ omega (arith, up_to_short b xs) ]
 
--- what the scan finds
-pub record Found (b : ℕ) (s : List ℕ) (i : ℕ) : Type 0 where
-  pub place : i ≡ length (up_to b s)
-  pub front : take i s ≡ up_to b s
-  pub back : drop i s ≡ on_from b s
+pub take_up_to : (b : ℕ) (s : List ℕ) → take (length (up_to b s)) s ≡ up_to b s
+take_up_to b [] = refl
+take_up_to b (x ∷ xs) = elim (x == b) as (λ t. take (length (cond t [] (x ∷ up_to b xs))) (x ∷ xs) ≡ cond t [] (x ∷ up_to b xs)) [ true ↦ refl | false ↦ ap (λ l. x ∷ l) (take_up_to b xs) ]
 
-found : (b : ℕ) (s : List ℕ) (i : ℕ) → i ≤ length s → take i s ≡ up_to b s → drop i s ≡ on_from b s → Found b s i
-found b s i le f g =
-    let len : length (take i s) ≡ i = omega (arith, length-take i s) in
-    record { place = sym len ∙ ap length f; front = f; back = g }
+pub drop_up_to : (b : ℕ) (s : List ℕ) → drop (length (up_to b s)) s ≡ on_from b s
+drop_up_to b [] = refl
+drop_up_to b (x ∷ xs) = elim (x == b) as (λ t. drop (length (cond t [] (x ∷ up_to b xs))) (x ∷ xs) ≡ cond t (x ∷ xs) (on_from b xs)) [ true ↦ refl | false ↦ drop_up_to b xs ]
 
-module _ (b : ℕ) (s : List ℕ) (i : ℕ) (lt : i < length s) where
-  pub scanned_more : eqb (get_or s i 0) b ≡ false → Scanned b s i → Scanned b s (i + 1)
-  scanned_more e h =
-      let f : up_to b (drop i s) ≡ cond (eqb (get_or s i 0) b) [] (get_or s i 0 ∷ up_to b (drop (i + 1) s)) = ap (up_to b) (drop_more s i 0 lt) in
-      let g : on_from b (drop i s) ≡ cond (eqb (get_or s i 0) b) (get_or s i 0 ∷ drop (i + 1) s) (on_from b (drop (i + 1) s)) = ap (on_from b) (drop_more s i 0 lt) in
-      record {
-        front = h.front ∙ ap (λ l. take i s ++ l) (rw e at f) ∙ sym (append_assoc (take i s) (get_or s i 0 ∷ []) (up_to b (drop (i + 1) s))) ∙ ap (λ l. l ++ up_to b (drop (i + 1) s)) (sym (take_more s i 0 lt));
-        back = h.back ∙ (rw e at g);
-      }
+place_or_end : (p n : ℕ) (t : Bool) → nat_lt p n ≡ t → p ≤ n → unwrap_or (cond t (Some p) None) n ≡ p
+place_or_end p n true e le = refl
+place_or_end p n false e le = omega (arith, ltb-false p n e)
 
-  pub scanned_found : eqb (get_or s i 0) b ≡ true → Scanned b s i → Found b s i
-  scanned_found e h =
-      let f : up_to b (drop i s) ≡ cond (eqb (get_or s i 0) b) [] (get_or s i 0 ∷ up_to b (drop (i + 1) s)) = ap (up_to b) (drop_more s i 0 lt) in
-      let g : on_from b (drop i s) ≡ cond (eqb (get_or s i 0) b) (get_or s i 0 ∷ drop (i + 1) s) (on_from b (drop (i + 1) s)) = ap (on_from b) (drop_more s i 0 lt) in
-      found b s i (omega arith) (sym (h.front ∙ ap (λ l. take i s ++ l) (rw e at f) ∙ append-nil (take i s))) (drop_more s i 0 lt ∙ sym (h.back ∙ (rw e at g)))
-
-pub scanned_all : (b : ℕ) (s : List ℕ) (i : ℕ) → i ≡ length s → Scanned b s i → Found b s i
-scanned_all b s i le h =
-    let none = drop_all i s (omega arith) in
-    found b s i (omega arith) (sym (h.front ∙ ap (λ l. take i s ++ up_to b l) none ∙ append-nil (take i s))) (none ∙ sym (h.back ∙ ap (on_from b) none))
+-- the first place of b, where the end stands for no place
+pub place_of : (b : ℕ) (s : List ℕ) (r : Option ℕ) → r ≡ cond (nat_lt (position_or_len (λ x. x == b) s) (length s)) (Some (position_or_len (λ x. x == b) s)) None → unwrap_or r (length s) ≡ length (up_to b s)
+place_of b s r e =
+    let at : length (up_to b s) ≡ position_or_len (λ x. x == b) s =
+    is_position_or_len (λ xs. length (up_to b xs)) (λ x. x == b) refl (λ x xs. elim (x == b) as (λ t. length (cond t [] (x ∷ up_to b xs)) ≡ cond t 0 (1 + length (up_to b xs))) [ true ↦ refl | false ↦ omega arith ]) s in
+    let place = position_or_len (λ x. x == b) s in
+    ap (λ o. unwrap_or o (length s)) e ∙ place_or_end place (length s) (nat_lt place (length s)) refl (omega (arith, at, up_to_short b s)) ∙ sym at

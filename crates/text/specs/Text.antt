@@ -1,5 +1,5 @@
 -- A line's bytes cut into words at single spaces, and words put together again. Assumes nothing.
-use Rattle.std.specs.Prelude.{◌≡◌, ℕ, false, cond, List, [], ◌∷◌, ◌++◌, ◌==◌}
+use Rattle.std.specs.Prelude.{◌≡◌, ℕ, false, if◌then◌else◌, List, [], ◌∷◌, ◌++◌, ◌==◌}
 
 -- the bytes of a word
 abbrev pub Word : Type 0
@@ -8,17 +8,12 @@ Word = List ℕ
 -- what stands before the first byte b
 abbrev pub up_to : ℕ → List ℕ → List ℕ
 up_to b [] = []
-up_to b (x ∷ xs) = cond (x == b) [] (x ∷ up_to b xs)
+up_to b (x ∷ xs) = if x == b then [] else x ∷ up_to b xs
 
 -- what stands from the first byte b on
 abbrev pub on_from : ℕ → List ℕ → List ℕ
 on_from b [] = []
-on_from b (x ∷ xs) = cond (x == b) (x ∷ xs) (on_from b xs)
-
--- all but the first byte
-abbrev pub past : List ℕ → List ℕ
-past [] = []
-past (x ∷ xs) = xs
+on_from b (x ∷ xs) = if x == b then x ∷ xs else on_from b xs
 
 -- a byte put in front of the first word
 abbrev pub onto : ℕ → List Word → List Word
@@ -28,7 +23,7 @@ onto x (w ∷ ws) = (x ∷ w) ∷ ws
 -- the words between single spaces (byte 32): one more than there are spaces
 abbrev pub words_of : List ℕ → List Word
 words_of [] = [] ∷ []
-words_of (x ∷ xs) = cond (x == 32) ([] ∷ words_of xs) (onto x (words_of xs))
+words_of (x ∷ xs) = if x == 32 then [] ∷ words_of xs else onto x (words_of xs)
 
 -- the words of what stands after a word: none, or those behind its space
 abbrev pub fields_of : List ℕ → List Word

@@ -1,4 +1,5 @@
 use Rattle.std.proofs.Common.{◌≡◌, take, sym, ◌∙◌}
+use Rattle.arrayvec.specs.ArrayVec.{array_vec_len}
 use Rattle.text.specs.Text.{words_of}
 use Rattle.assessment.specs.declared.Assessment.TheVariants.{Met, NotMet, Refused}
 use Rattle.assessment.specs.Reading.{read_question, assessed}
@@ -15,7 +16,7 @@ pub returns-then-met : goal.returns-then-met
 returns-then-met c =
     let q = c.in-Some.question in
     let value : Met ≡ assessed c.args.line.now =
-    answers_some (read_question (words_of c.args.line.now)) q.standard q.required (take q.members q.levels) (take q.members q.rows) _ c.in-Some.ensures (sym c.if-met.true ∙ c.met.ensures) in
+    answers_some (read_question (words_of c.args.line.now)) q.standard q.required q.levels.items (take (array_vec_len q.levels) q.rows) _ c.in-Some.ensures (sym c.if-met.true ∙ c.met.ensures) in
     let t = told c.args.line.now Met value in
     record { value = value; met = t.met; not_met = t.not_met; refused = t.refused }
 
@@ -23,6 +24,6 @@ pub returns-else-met : goal.returns-else-met
 returns-else-met c =
     let q = c.in-Some.question in
     let value : NotMet ≡ assessed c.args.line.now =
-    answers_some (read_question (words_of c.args.line.now)) q.standard q.required (take q.members q.levels) (take q.members q.rows) _ c.in-Some.ensures (sym c.if-met.false ∙ c.met.ensures) in
+    answers_some (read_question (words_of c.args.line.now)) q.standard q.required q.levels.items (take (array_vec_len q.levels) q.rows) _ c.in-Some.ensures (sym c.if-met.false ∙ c.met.ensures) in
     let t = told c.args.line.now NotMet value in
     record { value = value; met = t.met; not_met = t.not_met; refused = t.refused }
