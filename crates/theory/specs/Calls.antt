@@ -1,5 +1,5 @@
 -- What each call does, told fault by fault and field by field: the laws that its definition keeps.
-use Rattle.std.specs.Prelude.{◌≡◌, ℕ, suc, ◌<◌, ◌≤◌, Bool, false, ◌⊎◌, List, [], ◌∷◌, ◌++◌, length, get_or, Ok, Err, Option, ◌≢◌, slice_index_or}
+use Rattle.std.specs.Prelude.{◌≡◌, ℕ, suc, ◌<◌, ◌≤◌, Bool, false, ◌⊎◌, List, [], ◌∷◌, ◌++◌, length, Ok, Err, Option, ◌≢◌, slice_index_or}
 use Rattle.std.specs.List.{AllByRecursion}
 use Rattle.cost.specs.declared.quote.Quote.{Quote}
 use Rattle.theory.specs.declared.part.Part.{Part}
@@ -22,7 +22,7 @@ pub record RangeChanged (model : Model) (n floor ceiling : ℕ) : Type 0 where
   pub unknown : length model.parts ≤ n → range_call model n floor ceiling ≡ refuse 3 model
   pub no_range : n < length model.parts → (4 < ceiling) ⊎ (ceiling < floor) → range_call model n floor ceiling ≡ refuse 2 model
   pub answers : n < length model.parts → floor ≤ ceiling → ceiling ≤ 4 → (range_call model n floor ceiling).0 ≡ Ok tt
-  pub changed : n < length model.parts → floor ≤ ceiling → ceiling ≤ 4 → (d : Part) → slice_index_or (range_call model n floor ceiling).1.parts n d ≡ record { floor = floor; ceiling = ceiling; quotes = (get_or model.parts n d).quotes }
+  pub changed : n < length model.parts → floor ≤ ceiling → ceiling ≤ 4 → (d : Part) → slice_index_or (range_call model n floor ceiling).1.parts n d ≡ record { floor = floor; ceiling = ceiling; quotes = (slice_index_or model.parts n d).quotes }
   pub others : (k : ℕ) (d : Part) → (k ≢ n) → slice_index_or (range_call model n floor ceiling).1.parts k d ≡ slice_index_or model.parts k d
   pub as_many : length (range_call model n floor ceiling).1.parts ≡ length model.parts
   pub same_apart : (a b : ℕ) → (range_call model n floor ceiling).1.apart a b ≡ model.apart a b

@@ -1,6 +1,6 @@
 -- The five edits of a project: what each answers and which model it leaves, for every input.
-use Rattle.std.specs.Prelude.{◌≡◌, ℕ, zero, suc, Bool, true, cond, not, ◌&&◌, ◌||◌, List, [], ◌∷◌, ◌++◌, length, Ok, Err, Result, ◌==◌, nat_le, nat_lt}
-use Rattle.std.specs.List.{AllByRecursion}
+use Rattle.std.specs.Prelude.{◌≡◌, ℕ, zero, suc, Bool, true, if◌then◌else◌, not, ◌&&◌, ◌||◌, List, [], ◌∷◌, ◌++◌, length, Ok, Err, Result, ◌==◌, nat_le, nat_lt}
+use Rattle.std.specs.List.{AllByRecursion, list_all}
 use Rattle.cost.specs.declared.quote.Quote.{Quote}
 use Rattle.cost.specs.Totals.{Fits32}
 use Rattle.theory.specs.declared.part.Part.{Part}
@@ -42,15 +42,16 @@ no_range floor ceiling = nat_lt 4 ceiling || nat_lt ceiling floor
 -- A part is appended, apart from none, and its number answered.
 abbrev pub part_call : Model → ℕ → ℕ → List Quote → Outcome ℕ
 part_call model floor ceiling quotes =
-    cond (nat_le 64 (length model.parts)) (refuse 1 model)
-    (cond (no_range floor ceiling) (refuse 2 model) (
+    if nat_le 64 (length model.parts) then refuse 1 model
+    else if no_range floor ceiling then refuse 2 model
+    else (
       Ok (length model.parts),
       record {
         parts = model.parts ++ (record { floor = floor; ceiling = ceiling; quotes = quotes } ∷ []);
         apart = model.apart;
         sets = model.sets;
       },
-    ))
+    )
 
 -- Part n has a new floor and ceiling; every other record stays.
 abbrev pub ranged : List Part → ℕ → ℕ → ℕ → List Part
@@ -61,25 +62,24 @@ ranged (p ∷ ps) (suc n) floor ceiling = p ∷ ranged ps n floor ceiling
 -- A part gets another range.
 abbrev pub range_call : Model → ℕ → ℕ → ℕ → Outcome (Unit {0})
 range_call model n floor ceiling =
-    cond (nat_le (length model.parts) n) (refuse 3 model)
-    (cond (no_range floor ceiling) (refuse 2 model)
-    (Ok tt, record { parts = ranged model.parts n floor ceiling; apart = model.apart; sets = model.sets }))
+    if nat_le (length model.parts) n then refuse 3 model
+    else if no_range floor ceiling then refuse 2 model
+    else (Ok tt, record { parts = ranged model.parts n floor ceiling; apart = model.apart; sets = model.sets })
 
 -- Two parts, in either order, are apart or not; every other pair stays.
 abbrev pub declared : (ℕ → ℕ → Bool) → ℕ → ℕ → Bool → ℕ → ℕ → Bool
-declared apart a b value x y = cond ((x == a && y == b) || (x == b && y == a)) value (apart x y)
+declared apart a b value x y = if (x == a && y == b) || (x == b && y == a) then value else apart x y
 
 -- A pair is declared, or its declaration is taken back; doing either twice is accepted.
 abbrev pub apart_call : Model → ℕ → ℕ → Bool → Outcome (Unit {0})
 apart_call model a b value =
-    cond (nat_le (length model.parts) a || nat_le (length model.parts) b) (refuse 3 model)
-    (cond (a == b) (refuse 4 model)
-    (Ok tt, record { parts = model.parts; apart = declared model.apart a b value; sets = model.sets }))
+    if nat_le (length model.parts) a || nat_le (length model.parts) b then refuse 3 model
+    else if a == b then refuse 4 model
+    else (Ok tt, record { parts = model.parts; apart = declared model.apart a b value; sets = model.sets })
 
 -- All members stand among n parts.
 abbrev pub all_stand : ℕ → List ℕ → Bool
-all_stand n [] = true
-all_stand n (m ∷ ms) = nat_lt m n && all_stand n ms
+all_stand n = list_all (λ m. nat_lt m n)
 
 -- Each member is below the next.
 abbrev pub ascending : List ℕ → Bool
@@ -90,18 +90,19 @@ ascending (a ∷ b ∷ ms) = nat_lt a b && ascending (b ∷ ms)
 -- A set is appended and its number answered.
 abbrev pub cut_call : Model → ℕ → List ℕ → Outcome ℕ
 cut_call model required members =
-    cond (nat_le 128 (length model.sets)) (refuse 5 model)
-    (cond (required == 0 || nat_lt 4 required) (refuse 6 model)
-    (cond (length members == 0 || nat_lt 8 (length members)) (refuse 7 model)
-    (cond (not (all_stand (length model.parts) members)) (refuse 3 model)
-    (cond (not (ascending members)) (refuse 8 model) (
+    if nat_le 128 (length model.sets) then refuse 5 model
+    else if required == 0 || nat_lt 4 required then refuse 6 model
+    else if length members == 0 || nat_lt 8 (length members) then refuse 7 model
+    else if not (all_stand (length model.parts) members) then refuse 3 model
+    else if not (ascending members) then refuse 8 model
+    else (
       Ok (length model.sets),
       record {
         parts = model.parts;
         apart = model.apart;
         sets = model.sets ++ (record { required = required; members = members } ∷ []);
       },
-    )))))
+    )
 
 -- All sets but set n, each later one a number lower.
 abbrev pub without : List CutSet → ℕ → List CutSet
@@ -112,8 +113,8 @@ without (s ∷ ss) (suc n) = s ∷ without ss n
 -- A set is dropped.
 abbrev pub drop_call : Model → ℕ → Outcome (Unit {0})
 drop_call model n =
-    cond (nat_le (length model.sets) n) (refuse 9 model)
-    (Ok tt, record { parts = model.parts; apart = model.apart; sets = without model.sets n })
+    if nat_le (length model.sets) n then refuse 9 model
+    else (Ok tt, record { parts = model.parts; apart = model.apart; sets = without model.sets n })
 
 -- An edit, with what it is given.
 pub data Edit : Type 0 where

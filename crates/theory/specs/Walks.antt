@@ -1,5 +1,6 @@
 -- The search as a walk: what it holds, what one step does, and what a grant of steps answers.
-use Rattle.std.specs.Prelude.{ℕ, zero, suc, Bool, true, false, cond, not, ◌&&◌, List, [], ◌∷◌, ◌++◌, map, length, drop, Some, None, Ok, Err, Option, Result, nat_lt}
+use Rattle.std.specs.Prelude.{ℕ, zero, suc, Bool, true, false, if◌then◌else◌, not, List, [], ◌∷◌, ◌++◌, map, length, drop, Some, None, Ok, Err, Option, Result, nat_lt}
+use Rattle.std.specs.List.{list_all}
 use Rattle.scale.specs.Question.{Meaning}
 use Rattle.theory.specs.declared.part.Part.{Part}
 use Rattle.theory.specs.declared.verdict.Verdict.{Verdict}
@@ -36,18 +37,17 @@ filled parts path = path ++ ceilings (beyond parts path)
 
 -- Every set passes a test.
 abbrev pub all_pass : (CutSet → Bool) → List CutSet → Bool
-all_pass test [] = true
-all_pass test (s ∷ ss) = test s && all_pass test ss
+all_pass = list_all
 
 -- The number of the first set that does not pass.
 abbrev pub first_failing : (CutSet → Bool) → List CutSet → ℕ
 first_failing test [] = 0
-first_failing test (s ∷ ss) = cond (test s) (suc (first_failing test ss)) 0
+first_failing test (s ∷ ss) = if test s then suc (first_failing test ss) else 0
 
 -- A later part has risen, or this one rises by one if it is below its ceiling.
 abbrev pub raised : Part → ℕ → Option (List ℕ) → Option (List ℕ)
 raised p l (Some later) = Some (l ∷ later)
-raised p l None = cond (nat_lt l p.ceiling) (Some (suc l ∷ [])) None
+raised p l None = if nat_lt l p.ceiling then Some (suc l ∷ []) else None
 
 -- The last part on the path that is below its ceiling rises by one and all parts after it are removed; or there is none.
 abbrev pub advance : List Part → List ℕ → Option (List ℕ)
@@ -111,5 +111,5 @@ module _ {A : Type 0} (means : Meaning) (rule : Rule A) (model : Model) where
 -- What asking for the plan of n parts answers, and the buffer after it: the levels at its front, and what came after them as it was.
 abbrev pub plan_call : {A : Type 0} → ℕ → Walk A → List ℕ → Result ℕ ℕ × List ℕ
 plan_call n (running path best) buffer = (Err 10, buffer)
-plan_call n (settled best) buffer = cond (nat_lt (length buffer) n) (Err 11, buffer) (Ok n, best.levels ++ drop n buffer)
+plan_call n (settled best) buffer = if nat_lt (length buffer) n then (Err 11, buffer) else (Ok n, best.levels ++ drop n buffer)
 plan_call n (blocked k) buffer = (Err 10, buffer)
