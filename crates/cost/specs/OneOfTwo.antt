@@ -5,11 +5,6 @@ use Rattle.either.specs.declared.Either.{Either}
 use Rattle.either.specs.declared.Either.TheVariants.{Left, Right}
 
 module _ {A B M N : Type 0} where
-  -- Each rule starts with its own amount.
-  abbrev pub begins_of : (A → M) → (B → N) → Either A B → Either M N
-  begins_of f g (Left a) = Left (f a)
-  begins_of f g (Right b) = Right (g b)
-
   -- A quote joins an amount of the rule's own side, and leaves an amount of the other side as it is.
   abbrev pub joined_of : (A → M → Quote → M) → (B → N → Quote → N) → Either A B → Either M N → Quote → Either M N
   joined_of f g (Left a) (Left m) q = Left (f a m q)

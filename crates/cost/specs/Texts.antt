@@ -1,15 +1,11 @@
 -- The text of an amount, as bytes.
-use Rattle.std.specs.Prelude.{ℕ, List, [], ◌∷◌, ◌++◌, decimal}
+use Rattle.std.specs.Prelude.{ℕ, List, [], ◌++◌, codes, decimal}
 use Rattle.either.specs.declared.Either.{Either}
 use Rattle.either.specs.declared.Either.TheVariants.{Left, Right}
 
--- An amount of `sum` or `dearest` is written in decimal.
-abbrev pub number_text : ℕ → List ℕ
-number_text amount = decimal amount
-
 -- An amount of `staged` is written as its price, a space and its weeks.
 abbrev pub staged_text : ℕ × ℕ → List ℕ
-staged_text amount = decimal amount.0 ++ (32 ∷ decimal amount.1)
+staged_text amount = decimal amount.0 ++ (codes " " ++ decimal amount.1)
 
 -- Of two rules each writes its own amounts, and of the other side's writes nothing.
 abbrev pub text_of : {A B M N : Type 0} → (A → M → List ℕ) → (B → N → List ℕ) → Either A B → Either M N → List ℕ

@@ -1,15 +1,16 @@
 // One rule made of two: a value follows the rule of its side, and so do its amounts.
-ghost use Rattle.cost.specs.OneOfTwo.{begins_of, joined_of, lesser_of};
+ghost use Rattle.either.specs.Either.{map_either};
+ghost use Rattle.cost.specs.OneOfTwo.{joined_of, lesser_of};
 ghost use Rattle.cost.specs.Sides.{either_laws};
 
 use crate::quote::Quote;
 use crate::rule::CostRule;
-use either::Either;
+use either::{Either, Left, Right};
 
 impl<A: CostRule, B: CostRule> CostRule for Either<A, B> {
     type Amount = Either<A::Amount, B::Amount>;
 
-    ghost begins = { begins_of A.CostRule.begins B.CostRule.begins };
+    ghost begins = { map_either A.CostRule.begins B.CostRule.begins };
 
     ghost joined = { joined_of A.CostRule.joined B.CostRule.joined };
 
@@ -18,10 +19,7 @@ impl<A: CostRule, B: CostRule> CostRule for Either<A, B> {
     ghost laws = { either_laws A.CostRule.joined B.CostRule.joined A.CostRule.lesser B.CostRule.lesser A.CostRule.laws B.CostRule.laws };
 
     fn start(&self) -> Either<A::Amount, B::Amount> {
-        match self {
-            Either::Left(a) => Either::Left(a.start()),
-            Either::Right(b) => Either::Right(b.start()),
-        }
+        either::map_both!(self, rule => rule.start())
     }
 
     fn join(
@@ -29,18 +27,17 @@ impl<A: CostRule, B: CostRule> CostRule for Either<A, B> {
         amount: Either<A::Amount, B::Amount>,
         quote: Quote,
     ) -> Either<A::Amount, B::Amount> {
-        match (self, amount) {
-            (Either::Left(a), Either::Left(m)) => Either::Left(a.join(m, quote)),
-            (Either::Right(b), Either::Right(n)) => Either::Right(b.join(n, quote)),
-            (_, other) => other,
+        match self {
+            Left(a) => amount.map_left(|m| a.join(m, quote)),
+            Right(b) => amount.map_right(|n| b.join(n, quote)),
         }
     }
 
     fn less(&self, a: Either<A::Amount, B::Amount>, b: Either<A::Amount, B::Amount>) -> bool {
         match (self, a, b) {
-            (Either::Left(c), Either::Left(x), Either::Left(y)) => c.less(x, y),
-            (Either::Right(c), Either::Right(x), Either::Right(y)) => c.less(x, y),
-            (_, Either::Left(_), Either::Right(_)) => true,
+            (Left(rule), Left(x), Left(y)) => rule.less(x, y),
+            (Right(rule), Right(x), Right(y)) => rule.less(x, y),
+            (_, Left(_), Right(_)) => true,
             _ => false,
         }
     }

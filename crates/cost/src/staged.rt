@@ -31,6 +31,6 @@ impl CostRule for Staged {
     }
 
     fn less(&self, a: (u64, u64), b: (u64, u64)) -> bool {
-        a.0 < b.0 || (a.0 == b.0 && a.1 < b.1)
+        a < b
     }
 }

@@ -1,15 +1,14 @@
 // Each rule on a table worked by hand, its order and its stop, and the words and texts.
-use crate::dearest::*;
-use crate::one_of_two::*;
-use crate::quote::*;
-use crate::rule::*;
-use crate::staged::*;
-use crate::sum::*;
-use crate::text::*;
-use crate::total::*;
-use crate::words::*;
+use crate::dearest::Dearest;
+use crate::quote::Quote;
+use crate::rule::CostRule;
+use crate::staged::Staged;
+use crate::sum::Sum;
+use crate::text::AmountText;
+use crate::total::{cost, total_price};
+use crate::words::{AnyRule, RuleWord};
+use either::Right;
 use std::test::Fail;
-use either::Either;
 
 // Two quotes, each a price and weeks; then their cost under `sum`, `dearest` and `staged`.
 const TABLE: [([(u32, u32); 2], u64, u32, (u64, u64)); 4] = [
@@ -30,12 +29,11 @@ fn made((price, weeks): (u32, u32)) -> Quote {
 
 #[test]
 fn costs(rt: HostRuntime) {
-    for (pair, sum, dearest, (price, weeks)) in TABLE {
-        let quotes = [made(pair[0]), made(pair[1])];
-        let staged = cost(&Staged, &quotes);
+    for (pair, sum, dearest, staged) in TABLE {
+        let quotes = pair.map(made);
         assert!(rt; cost(&Sum, &quotes) == sum);
         assert!(rt; cost(&Dearest, &quotes) == dearest);
-        assert!(rt; staged.0 == price && staged.1 == weeks);
+        assert!(rt; cost(&Staged, &quotes) == staged);
         assert!(rt; total_price(&quotes) == sum);
     }
 }
@@ -51,10 +49,7 @@ fn orders(rt: HostRuntime) {
 
 // Whether the word names a rule that prints it again.
 fn is_word(word: &[u8]) -> bool {
-    match AnyRule::read(word) {
-        Some(rule) => rule.word().as_bytes() == word,
-        None => false,
-    }
+    AnyRule::read(word).is_some_and(|rule| rule.word().as_bytes() == word)
 }
 
 #[test]
@@ -65,7 +60,7 @@ fn words(rt: HostRuntime) {
 
 #[test]
 fn texts(rt: HostRuntime) -> Result<(), Fail> {
-    let rule: AnyRule = Either::Right(Either::Right(Staged));
+    let rule: AnyRule = Right(Right(Staged));
     let amount = cost(&rule, &[made((20, 2)), made((25, 2))]);
     let text = rule.text(rt.alloc(), amount)?;
     assert!(rt; text.as_str() == "45 4");

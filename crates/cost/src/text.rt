@@ -1,13 +1,13 @@
 // The text of an amount.
-ghost use Rattle.std.specs.Prelude.{◌≡◌, ℕ, List, IfOk, string_bytes};
-ghost use Rattle.cost.specs.Texts.{number_text, staged_text, text_of};
+ghost use Rattle.std.specs.Prelude.{◌≡◌, ℕ, List, IfOk, string_bytes, decimal};
+ghost use Rattle.cost.specs.Texts.{staged_text, text_of};
 
 use crate::dearest::Dearest;
 use crate::rule::CostRule;
 use crate::staged::Staged;
 use crate::sum::Sum;
+use either::{Either, Left, Right};
 use std::alloc::{AllocError, Global};
-use either::Either;
 
 // Rules whose amounts can be printed.
 pub trait AmountText: CostRule {
@@ -19,7 +19,7 @@ pub trait AmountText: CostRule {
 }
 
 impl AmountText for Sum {
-    ghost shown = { λ _. number_text };
+    ghost shown = { λ _. decimal };
 
     fn text(&self, heap: Global, amount: u64) -> Result<String, AllocError> {
         format!(in heap; "{amount}")
@@ -27,7 +27,7 @@ impl AmountText for Sum {
 }
 
 impl AmountText for Dearest {
-    ghost shown = { λ _. number_text };
+    ghost shown = { λ _. decimal };
 
     fn text(&self, heap: Global, amount: u32) -> Result<String, AllocError> {
         format!(in heap; "{amount}")
@@ -51,8 +51,8 @@ impl<A: AmountText, B: AmountText> AmountText for Either<A, B> {
         amount: Either<A::Amount, B::Amount>,
     ) -> Result<String, AllocError> {
         match (self, amount) {
-            (Either::Left(a), Either::Left(m)) => a.text(heap, m),
-            (Either::Right(b), Either::Right(n)) => b.text(heap, n),
+            (Left(a), Left(m)) => a.text(heap, m),
+            (Right(b), Right(n)) => b.text(heap, n),
             _ => Ok(String::new(heap)),
         }
     }

@@ -16,23 +16,12 @@ fn join_one<C: CostRule>(rule: &C, amount: C::Amount, quote: Quote) -> C::Amount
     rule.join(amount, quote)
 }
 
-// Each quote joined in order; `Exact` holds of any quotes that a program holds.
-fn join_all<C: CostRule>(rule: &C, mut amount: C::Amount, quotes: &[Quote]) -> C::Amount
-    ensures value { result ≡ cost_of (C.CostRule.joined rule.now) amount quotes.now }
-    ensures exact { Exact quotes.now }
-{
-    for quote in quotes {
-        amount = join_one(rule, amount, *quote);
-    }
-    amount
-}
-
-// The cost of the quotes under a rule: its start amount with each quote joined in order.
+// The cost of the quotes under a rule: its start amount with each quote joined in order. `Exact` holds of any quotes that a program holds.
 pub fn cost<C: CostRule>(rule: &C, quotes: &[Quote]) -> C::Amount
     ensures value { result ≡ cost_of (C.CostRule.joined rule.now) (C.CostRule.begins rule.now) quotes.now }
     ensures exact { Exact quotes.now }
 {
-    join_all(rule, rule.start(), quotes)
+    quotes.iter().fold(rule.start(), |amount, quote| join_one(rule, amount, *quote))
 }
 
 // The cost under `sum`, which for at most 64 quotes is the true total price.
