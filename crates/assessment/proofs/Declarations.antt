@@ -27,12 +27,14 @@ Somewhere pairs i k = (m : ℕ) × (m < length pairs) × HoldsAt (λ pair. (pair
 
 somewhere_declared : (pairs : List Pair) (i k : ℕ) → Somewhere pairs i k → Declared pairs i k
 somewhere_declared pairs i k h = ⊎_elim
-    (λ (e : get_or pairs h.0 (0, 0) ≡ (i, k)). inl (h.0, h.1, λ d. get_or_default pairs h.0 d (0, 0) h.1 ∙ e))
-    (λ (e : get_or pairs h.0 (0, 0) ≡ (k, i)). inr (h.0, h.1, λ d. get_or_default pairs h.0 d (0, 0) h.1 ∙ e))
+    (λ (e : get_or pairs h.0 (0, 0) ≡ (i, k)). inl (h.0, h.1, get_or_default pairs h.0 (i, k) (0, 0) h.1 ∙ e))
+    (λ (e : get_or pairs h.0 (0, 0) ≡ (k, i)). inr (h.0, h.1, get_or_default pairs h.0 (k, i) (0, 0) h.1 ∙ e))
     (h.2 (0, 0))
 
 declared_somewhere : (pairs : List Pair) (i k : ℕ) → Declared pairs i k → Somewhere pairs i k
-declared_somewhere pairs i k = ⊎_elim (λ h. (h.0, h.1, λ d. inl (h.2 d))) (λ h. (h.0, h.1, λ d. inr (h.2 d)))
+declared_somewhere pairs i k = ⊎_elim
+    (λ h. (h.0, h.1, λ d. inl (get_or_default pairs h.0 d (i, k) h.1 ∙ h.2)))
+    (λ h. (h.0, h.1, λ d. inr (get_or_default pairs h.0 d (k, i) h.1 ∙ h.2)))
 
 declared_decides : (pairs : List Pair) (i k : ℕ) → Decides (declared pairs i k) (Declared pairs i k)
 declared_decides pairs i k =

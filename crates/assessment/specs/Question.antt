@@ -1,7 +1,7 @@
 -- A question in the words of the format, the line that writes it, and what a line asks. Assumes nothing.
-use Rattle.std.specs.Prelude.{◌≡◌, ℕ, ◌+◌, ◌<◌, ◌≤◌, Bool, ◌⊎◌, List, [], ◌∷◌, ◌++◌, map, length, codes, Decides, ◌≢◌, slice_index}
+use Rattle.std.specs.Prelude.{◌≡◌, ℕ, ◌+◌, ◌<◌, ◌≤◌, Bool, ◌⊎◌, List, [], ◌∷◌, ◌++◌, map, length, codes, IsTrue, ◌↔◌, ◌≢◌, slice_index}
 use Rattle.std.specs.Option.{unwrap_or}
-use Rattle.std.specs.List.{ContainsAt, AllByRecursion}
+use Rattle.std.specs.List.{Contains, AllByRecursion}
 use Rattle.standard.specs.Letters.{printed}
 use Rattle.scale.specs.Question.{bit, answer}
 use Rattle.standard.specs.Standards.{Standard, standard_word}
@@ -55,13 +55,13 @@ render question = unwords (words question)
 
 -- members i and k are declared independent, in either order
 abbrev pub Declared : List Pair → ℕ → ℕ → Type 0
-Declared pairs i k = ContainsAt pairs (i, k) ⊎ ContainsAt pairs (k, i)
+Declared pairs i k = Contains pairs (i, k) ⊎ Contains pairs (k, i)
 
 -- a row of eight bits for each of n members, where bit k of row i is set exactly when i and k are declared independent
 pub record Declares (pairs : List Pair) (n : ℕ) (rows : List ℕ) : Type 0 where
   pub each : length rows ≡ n
   pub bytes : (i : ℕ) → i < n → slice_index rows i < 256
-  pub bits : (i k : ℕ) → i < n → k < 8 → Decides (bit (slice_index rows i) k) (Declared pairs i k)
+  pub bits : (i k : ℕ) → i < n → k < 8 → IsTrue (bit (slice_index rows i) k) ↔ Declared pairs i k
 
 -- a line writes a well-formed question, which its scale answers with yes (true) or no (false)
 pub record Asks (line : List ℕ) (met : Bool) : Type 0 where

@@ -1,6 +1,6 @@
 -- The listing has exactly the partial allocations, each once. Assumes nothing.
 use Rattle.std.proofs.Common.{◌≡◌, ℕ, zero, suc, ◌+◌, ◌*◌, ◌<◌, ◌≤◌, ◌⊎◌, List, [], ◌∷◌, ◌++◌, map, length, get_or, take, sym, refl, ap, ◌∙◌, subst, inl, inr, ⊎_elim, add-mul, one-mul, zero-mul, mul-add, arith}
-use Rattle.std.specs.List.{ContainsAt, AllByRecursion}
+use Rattle.std.specs.List.{Contains, AllByRecursion}
 use Rattle.std.proofs.lemmas.List.{length-map, length-append}
 use Rattle.std.proofs.lemmas.Bool.{cases_eq}
 use Rattle.theory.specs.declared.part.Part.{Part}
@@ -23,22 +23,22 @@ formula (p ∷ ps) =
     ap (λ n. 1 + n) (rest ∙ sym (factor_out (length ps) w (λ m. choices (take m ps))))
     ∙ sym (first_out (length ps) (λ m. choices (take m (p ∷ ps))))
 
--- membership by recursion, which is what `ContainsAt` says by index
+-- membership by recursion, which is what `Contains` says by index
 abbrev In : {X : Type 0} → List X → X → Type 0
 In [] x = ⊥
 In (y ∷ ys) x = (y ≡ x) ⊎ In ys x
 
-in_at : {X : Type 0} (xs : List X) (x : X) (k : ℕ) → k < length xs → ((d : X) → get_or xs k d ≡ x) → In xs x
+in_at : {X : Type 0} (xs : List X) (x : X) (k : ℕ) → k < length xs → get_or xs k x ≡ x → In xs x
 in_at [] x k less e = absurd (omega arith)
-in_at (y ∷ ys) x zero less e = inl (e x)
+in_at (y ∷ ys) x zero less e = inl e
 in_at (y ∷ ys) x (suc k) less e = inr (in_at ys x k (omega arith) e)
 
-in_from_has : {X : Type 0} (xs : List X) (x : X) → ContainsAt xs x → In xs x
+in_from_has : {X : Type 0} (xs : List X) (x : X) → Contains xs x → In xs x
 in_from_has xs x h = in_at xs x h.0 h.1 h.2
 
-has_from_in : {X : Type 0} (xs : List X) (x : X) → In xs x → ContainsAt xs x
+has_from_in : {X : Type 0} (xs : List X) (x : X) → In xs x → Contains xs x
 has_from_in [] x h = absurd h
-has_from_in (y ∷ ys) x (inl e) = (0, omega arith, λ d. e)
+has_from_in (y ∷ ys) x (inl e) = (0, omega arith, e)
 has_from_in (y ∷ ys) x (inr h) = let later = has_from_in ys x h in (suc later.0, omega (arith, later.1), later.2)
 
 in_append : {X : Type 0} (xs ys : List X) (x : X) → In (xs ++ ys) x → In xs x ⊎ In ys x

@@ -1,6 +1,6 @@
 -- Partial allocations: paths with levels inside the ranges, the empty and the complete ones counted; their listing and their number.
 use Rattle.std.specs.Prelude.{◌≡◌, ℕ, zero, suc, ◌+◌, ◌-◌, ◌*◌, ◌≤◌, ◌↔◌, List, [], ◌∷◌, ◌++◌, map, length, take}
-use Rattle.std.specs.List.{ContainsAt, AllByRecursion}
+use Rattle.std.specs.List.{Contains, AllByRecursion}
 use Rattle.theory.specs.declared.part.Part.{Part}
 use Rattle.theory.specs.Model.{SoundPart}
 
@@ -32,7 +32,7 @@ listing (p ∷ ps) = [] ∷ each_level p.floor (width p) (listing ps)
 -- No entry of a list stands in it twice.
 abbrev pub EachOnce : {X : Type 0} → List X → Type 0
 EachOnce [] = Unit {0}
-EachOnce (x ∷ xs) = (ContainsAt xs x → ⊥) × EachOnce xs
+EachOnce (x ∷ xs) = (Contains xs x → ⊥) × EachOnce xs
 
 -- The number of allocations of some parts.
 abbrev pub choices : List Part → ℕ
@@ -46,7 +46,7 @@ sum_to (suc n) f = sum_to n f + f (suc n)
 
 -- The listing has exactly the partial allocations, each once; their number is its length, and the sum over m of the allocations of the first m parts.
 pub record Counted (parts : List Part) : Type 0 where
-  pub exactly : (path : List ℕ) → (ContainsAt (listing parts) path ↔ Partial parts path)
+  pub exactly : (path : List ℕ) → (Contains (listing parts) path ↔ Partial parts path)
   pub once : EachOnce (listing parts)
   pub long : length (listing parts) ≡ partials parts
   pub formula : partials parts ≡ sum_to (length parts) (λ m. choices (take m parts))
