@@ -1,7 +1,4 @@
-pub mod Flags
-pub mod Models
 pub mod Rising
-pub mod Lawful
-pub mod Brought
 pub mod Edited
+pub mod Brought
 pub mod Lent

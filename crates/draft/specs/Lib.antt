@@ -1,4 +1,4 @@
 pub mod Apart
 pub mod Views
-pub mod Laws
+pub mod Props
 pub mod Drafts

@@ -4,9 +4,11 @@ ghost use Rattle.std.specs.Prelude.{◌≡◌, ℕ, ◌<◌, false, ◌≢◌};
 ghost use Rattle.theory.specs.Edits.{declared as pair-declared};
 ghost use Rattle.draft.specs.Apart.{apart_at};
 
+use theory::limits::MOST_PARTS;
+
 #[derive(Clone, Copy)]
 pub struct Apart {
-    flags: [bool; 4096],
+    flags: [[bool; MOST_PARTS]; MOST_PARTS],
 }
 
 impl Apart {
@@ -14,29 +16,26 @@ impl Apart {
         ensures { (a b : ℕ) → apart_at result.flags a b ≡ false }
     {
         Apart {
-            flags: [false; 4096],
+            flags: [[false; MOST_PARTS]; MOST_PARTS],
         }
     }
 
     // Declares a pair of two parts, or takes its declaration back.
     pub(crate) fn declare(&mut self, a: usize, b: usize, value: bool)
-        requires { (a < 64) × ((b < 64) × ((a ≢ b))) }
+        requires a_stands { a < MOST_PARTS }
+        requires b_stands { b < MOST_PARTS }
+        requires two { a ≢ b }
         ensures { (x y : ℕ) → apart_at self.new.flags x y ≡ pair-declared (apart_at self.old.flags) a b value x y }
     {
-        let low = a.min(b);
-        let high = a.max(b);
-        self.flags[low * 64 + high] = value;
+        let row = &mut self.flags[a.min(b)];
+        row[a.max(b)] = value;
     }
 
     pub(crate) fn holds(&self, a: usize, b: usize) -> bool
-        requires { (a < 64) × (b < 64) }
+        requires a_stands { a < MOST_PARTS }
+        requires b_stands { b < MOST_PARTS }
         ensures { result ≡ apart_at self.now.flags a b }
     {
-        if a == b {
-            return false;
-        }
-        let low = a.min(b);
-        let high = a.max(b);
-        self.flags[low * 64 + high]
+        a != b && self.flags[a.min(b)][a.max(b)]
     }
 }

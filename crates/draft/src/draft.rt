@@ -1,9 +1,10 @@
 // A draft: a project while it is edited, with its laws in its type and all its memory taken once.
 
-ghost use Rattle.std.specs.Prelude.{◌≡◌, ℕ, ◌<◌, ◌≤◌, true, map, length, vec_capacity};
-ghost use Rattle.draft.specs.Apart.{apart_at};
-ghost use Rattle.draft.specs.Views.{set_of};
-ghost use Rattle.draft.specs.Laws.{lawful};
+ghost use Rattle.std.specs.Prelude.{◌≤◌, vec_capacity};
+ghost use Rattle.theory.specs.Model.{Sound};
+ghost use Rattle.theory.specs.declared.limits.TheConstants.{MOST_PARTS, MOST_SETS};
+ghost use Rattle.draft.specs.Views.{view};
+ghost use Rattle.draft.specs.Props.{Sound-prop};
 
 use crate::apart::Apart;
 use crate::cut_set::CutSet;
@@ -23,9 +24,8 @@ pub struct Draft {
     apart: Apart,
     sets: Vec<CutSet>,
     // There is room for all parts and sets that may ever stand, so no edit allocates.
-    ghost part_room: { 64 ≤ vec_capacity parts.records },
-    ghost set_room: { 128 ≤ vec_capacity sets },
-    // The parts and sets keep the laws, and only standing parts are apart.
-    ghost laws: { lawful parts.records.items (map set_of sets.items) ≡ true },
-    ghost standing: { (a b : ℕ) → apart_at apart.flags a b ≡ true → (a < length parts.records.items) × (b < length parts.records.items) },
+    ghost part_room: { MOST_PARTS ≤ vec_capacity parts.records },
+    ghost set_room: { MOST_SETS ≤ vec_capacity sets },
+    // The project is sound.
+    ghost sound: { Sound (view parts.records.items apart.flags sets.items) } by { Sound-prop (view parts.records.items apart.flags sets.items) },
 }

@@ -7,22 +7,12 @@ ghost use Rattle.theory.specs.Edits.{all_stand, ascending as ascending-test};
 pub(crate) fn all_stand(members: &[u32], count: usize) -> bool
     ensures { result ≡ all_stand count members.now }
 {
-    for member in members {
-        if *member as usize >= count {
-            return false;
-        }
-    }
-    true
+    members.iter().all(|member| (*member as usize) < count)
 }
 
 // Whether each member is below the next.
 pub(crate) fn ascending(members: &[u32]) -> bool
     ensures { result ≡ ascending-test members.now }
 {
-    for i in 1..members.len() {
-        if members[i - 1] >= members[i] {
-            return false;
-        }
-    }
-    true
+    members.is_sorted_by(|a, b| a < b)
 }

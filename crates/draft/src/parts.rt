@@ -1,6 +1,6 @@
 // The table of parts, in the order of their numbers: a plain table, whose laws are the draft's.
 
-ghost use Rattle.std.specs.Prelude.{◌≡◌, ◌+◌, ◌<◌, ◌≤◌, [], ◌∷◌, ◌++◌, IfOk, vec_len, vec_capacity, slice_index_or};
+ghost use Rattle.std.specs.Prelude.{◌≡◌, ◌+◌, ◌<◌, ◌≤◌, [], ◌∷◌, ◌++◌, IfOk, MatchResult, vec_len, vec_capacity, slice_index_or};
 ghost use Rattle.std.specs.Borrow.{sem, follows};
 ghost use Rattle.std.specs.Vec.{with_item};
 ghost use Rattle.cost.specs.Totals.{Fits32};
@@ -10,8 +10,11 @@ ghost use Rattle.draft.specs.contracts.parts.Parts.{the_row as parts-row};
 
 use cost::quote::Quote;
 use std::alloc::{AllocError, Global};
+use theory::limits::MOST_PARTS;
 use theory::part::Part;
+use theory::refusal::Refusal;
 
+#[derive(Drop)]
 pub struct Parts {
     records: Vec<Part>,
 }
@@ -37,17 +40,12 @@ pub(crate) fn part_record(floor: u8, ceiling: u8, quotes: [Quote; 5]) -> Part
 }
 
 impl Parts {
-    // An empty table with room for 64 parts.
+    // An empty table with room for all parts that may ever stand.
     pub(crate) fn new(heap: Global) -> Result<Parts, AllocError>
-        ensures { IfOk result (λ table. (table.records.items ≡ []) × (64 ≤ vec_capacity table.records)) }
+        ensures { IfOk result (λ table. (table.records.items ≡ []) × (MOST_PARTS ≤ vec_capacity table.records)) }
     {
-        let records = Vec::with_capacity(heap, 64)?;
+        let records = Vec::with_capacity(heap, MOST_PARTS)?;
         Ok(Parts { records })
-    }
-
-    pub(crate) fn close(self) {
-        let Parts { records } = self;
-        drop(records);
     }
 
     pub(crate) fn clear(&mut self)
@@ -69,6 +67,20 @@ impl Parts {
         self.records.as_slice()
     }
 
+    // Where a part's record is.
+    pub(crate) fn place(&self, number: u32) -> Result<usize, Refusal>
+        ensures { MatchResult result
+            (λ place. (place ≡ number) × (place < vec_len self.now.records))
+            (λ refusal. (refusal ≡ Refusal.NoSuchPart) × (vec_len self.now.records ≤ number)) }
+    {
+        let place = number as usize;
+        if place < self.count() {
+            Ok(place)
+        } else {
+            Err(Refusal::NoSuchPart)
+        }
+    }
+
     // One part more, for which there is room.
     pub(crate) fn add(&mut self, part: Part)
         requires { vec_len self.old.records < vec_capacity self.old.records }
@@ -79,11 +91,11 @@ impl Parts {
     }
 
     // One part's record, to be changed; every other stays.
-    pub(crate) fn record(&mut self, number: usize) -> &mut Part
-        requires { number < vec_len self.old.records }
-        ensures* follows { sem 𝓛 (follows parts-row part-row self.entry.ghost_name result.ghost_name (λ w. record { records = with_item self.old.records number w })) }
-        ensures value { result.now ≡ slice_index_or self.old.records.items number result.now }
+    pub(crate) fn record(&mut self, place: usize) -> &mut Part
+        requires { place < vec_len self.old.records }
+        ensures* follows { sem 𝓛 (follows parts-row part-row self.entry.ghost_name result.ghost_name (λ w. record { records = with_item self.old.records place w })) }
+        ensures value { result.now ≡ slice_index_or self.old.records.items place result.now }
     {
-        &mut self.records[number]
+        &mut self.records[place]
     }
 }

@@ -1,54 +1,33 @@
--- What a scale is asked of a set: who is apart, the rows, and the levels. Assumes nothing.
-use Rattle.std.proofs.Common.{◌≡◌, ℕ, zero, suc, ◌+◌, ◌-◌, ◌*◌, ◌%◌, ◌^◌, ◌<◌, ◌≤◌, Bool, true, false, cond, ◌&&◌, ltb, List, [], ◌∷◌, map, length, get_or, take, drop, Some, None, sym, refl, ap, ◌∙◌, subst, ⊎_elim, add-one, arith, pow_mono}
-use Rattle.std.proofs.lemmas.Nat.{one_shl}
+-- What a scale is asked of a set: the rows, the levels, and which set is the first that fails. Assumes nothing.
+use Rattle.std.proofs.Common.{◌≡◌, ℕ, ◌+◌, ◌-◌, ◌*◌, ◌%◌, ◌^◌, ◌<◌, ◌≤◌, Bool, true, false, cond, List, [], ◌∷◌, length, get_or, take, drop, Some, None, sym, refl, ap, ◌∙◌, ⊎_elim, add-one, arith, pow_mono}
 use Rattle.std.specs.List.{AllByRecursion}
-use Rattle.std.proofs.ByRecursion.{All-weaker}
-use Rattle.std.proofs.lemmas.List.{length-take-le, get_or_append_left, get_or-append_right, get_or-take, get_or-drop, drop-map, take_all}
-use Rattle.std.proofs.lemmas.Bool.{cases_Bool, cases_lt, cond-true, cond-false, and_from, and_parts, and_left, and_right, lt-ltb}
+use Rattle.std.proofs.ByRecursion.{All-get_or}
+use Rattle.std.proofs.lemmas.Nat.{one_shl}
+use Rattle.std.proofs.lemmas.List.{length-map, length-take-le, get_or_append_left, get_or-append_right, get_or-take, get_or-drop, get_or-map, drop-map, at_drop_more, at_drop_all}
+use Rattle.std.proofs.lemmas.Bool.{cases_lt}
+use Rattle.std.proofs.lemmas.Bool.Decides.{nat_tests}
+use Rattle.arrayvec.specs.ArrayVec.{ArrayVec}
 use Rattle.scale.specs.Question.{Meaning, answer}
 use Rattle.scale.specs.Rows.{row_of}
 use Rattle.scale.proofs.Bits.{row_below}
 use Rattle.theory.specs.declared.part.Part.{Part}
-use Rattle.theory.specs.Model.{CutSet, Model, Sound}
+use Rattle.theory.specs.Model.{CutSet, Model, SoundSet, Sound}
 use Rattle.theory.specs.Allocations.{levels_of, rows, meets}
 use Rattle.theory.specs.Walks.{ceilings, beyond, filled, all_pass, first_failing}
-use Rattle.draft.specs.declared.cut_set.CutSet as draft
-use Rattle.draft.specs.Views.{set_of}
-use Rattle.draft.specs.Drafts.{apart_answer}
 use Rattle.search.specs.declared.path.Path.{Path}
 use Rattle.search.specs.State.{path_of, first_unmet}
 use Rattle.search.specs.Ties.{RowsTied, PathTied}
-use Rattle.search.proofs.Stored.{sets_count, set_at, set_sound}
 
--- a pair with a number that does not stand is not apart
-pub none_apart : (m : Model) → Sound m → (a b : ℕ) → apart_answer m a b ≡ None → m.apart a b ≡ false
-none_apart m sound a b asked = ⊎_elim
-    (λ (t : m.apart a b ≡ true).
-    let w = sound.only_standing a b t in
-    let both = and_from (ltb a (length m.parts)) (ltb b (length m.parts)) (lt-ltb a (length m.parts) w.0) (lt-ltb b (length m.parts) w.1) in
-    let some : apart_answer m a b ≡ Some (m.apart a b) = cond-true _ (Some (m.apart a b)) None both in
-    absurd (let z : ◌≡◌ {A = ℕ} 0 1 = cc in omega arith))
-    (λ (t : m.apart a b ≡ false). t)
-    (cases_Bool (m.apart a b))
+-- the bit of one of eight members
+pub bit_value : (j : ℕ) → j < 8 → 1 * 2 ^ j % 256 ≡ 2 ^ j
+bit_value j few = one_shl j 8 few
 
--- one bit more of a row
-module _ (test : ℕ → Bool) (j bits : ℕ) (is : bits ≡ row_of test j) (few : j < 8) where
-  row_next : row_of test (j + 1) ≡ row_of test j + cond (test j) (2 ^ j) 0
-  row_next = ap (row_of test) (add-one j)
+-- with it a row still has eight bits
+pub row_small : (test : ℕ → Bool) (j : ℕ) → j < 8 → row_of test j + 2 ^ j < 256
+row_small test j few = omega (arith, row_below test j, pow_mono {i = j} {j = 7} (omega arith))
 
-  pub row_fits : bits + 1 * 2 ^ j % 256 < 256
-  row_fits = omega (arith, one_shl j 8 few, row_below test j, pow_mono {i = j} {j = 7} (omega arith), is)
-
-  pub row_with : {t : Bool} → t ≡ test j → t ≡ true → bits + 1 * 2 ^ j % 256 ≡ row_of test (j + 1)
-  row_with asked told = omega (arith, one_shl j 8 few, is, row_next, cond-true (test j) (2 ^ j) 0 (sym asked ∙ told))
-
-  pub row_without : {t : Bool} → t ≡ test j → t ≡ false → bits ≡ row_of test (j + 1)
-  row_without asked told = omega (arith, is, row_next, cond-false (test j) (2 ^ j) 0 (sym asked ∙ told))
-
--- two allocations that agree at the members give them the same levels
-pub same_levels : (xs ys : List ℕ) (ms : List ℕ) → AllByRecursion (λ m. get_or xs m 0 ≡ get_or ys m 0) ms → levels_of xs ms ≡ levels_of ys ms
-same_levels xs ys [] agree = refl
-same_levels xs ys (m ∷ ms) agree = λ i. agree.0 i ∷ same_levels xs ys ms agree.1 i
+pub row_more : (test : ℕ → Bool) (j : ℕ) → row_of test (j + 1) ≡ row_of test j + cond (test j) (2 ^ j) 0
+row_more test j = ap (row_of test) (add-one j)
 
 -- the path with the ceilings beyond it is what the table of levels holds
 pub filled_at : (parts : List Part) (path : Path) → PathTied parts path → length parts ≤ length path.levels → (m : ℕ) → m < length parts → get_or (filled parts (path_of path)) m 0 ≡ get_or path.levels m 0
@@ -70,40 +49,43 @@ filled_at parts path tied room m stands =
     back : (n m : ℕ) → n ≤ m → n + (m - n) ≡ m
     back n m h = omega arith
 
--- the first set that fails
-pub fails_at : (test : CutSet → Bool) (ss : List CutSet) (i : ℕ) (s : CutSet) → i < length ss → get_or ss i s ≡ s → all_pass test (take i ss) ≡ true → test s ≡ false → Some i ≡ first_unmet test ss
-fails_at test ss i s within is before here = sym (ap (λ t. cond t None (Some (first_failing test ss))) (go ss i within is before).0 ∙ ap Some (go ss i within is before).1)
-  where
-    go : (ss : List CutSet) (i : ℕ) → i < length ss → get_or ss i s ≡ s → all_pass test (take i ss) ≡ true → (all_pass test ss ≡ false) × (first_failing test ss ≡ i)
-    go [] i within is before = absurd (omega arith)
-    go (t ∷ ss) zero within is before =
-        let no_pass : test t ≡ false = ap test is ∙ here in
-        (and_left (test t) (all_pass test ss) no_pass, cond-false (test t) (suc (first_failing test ss)) 0 no_pass)
-    go (t ∷ ss) (suc i) within is before =
-        let b = and_parts (test t) (all_pass test (take i ss)) before in
-        let later = go ss i (omega arith) is b.1 in
-        (and_right (test t) (all_pass test ss) later.0, cond-true (test t) (suc (first_failing test ss)) 0 b.0 ∙ ap suc later.1)
+-- two allocations that agree at the standing parts give standing members the same levels
+same_levels : (xs ys : List ℕ) (n : ℕ) (ms : List ℕ) → ((k : ℕ) → k < n → get_or xs k 0 ≡ get_or ys k 0) → AllByRecursion (λ m. m < n) ms → levels_of xs ms ≡ levels_of ys ms
+same_levels xs ys n [] agree standing = refl
+same_levels xs ys n (m ∷ ms) agree standing = λ i. agree m standing.0 i ∷ same_levels xs ys n ms agree standing.1 i
 
-pub passes_more : (test : CutSet → Bool) (ss : List CutSet) (i : ℕ) (s : CutSet) → i < length ss → get_or ss i s ≡ s → all_pass test (take i ss) ≡ true → test s ≡ true → all_pass test (take (i + 1) ss) ≡ true
-passes_more test ss i s within is before here = ap (λ n. all_pass test (take n ss)) (add-one i) ∙ go ss i within is before
-  where
-    go : (ss : List CutSet) (i : ℕ) → i < length ss → get_or ss i s ≡ s → all_pass test (take i ss) ≡ true → all_pass test (take (suc i) ss) ≡ true
-    go [] i within is before = absurd (omega arith)
-    go (t ∷ ss) zero within is before = and_from (test t) true (ap test is ∙ here) refl
-    go (t ∷ ss) (suc i) within is before =
-        let b = and_parts (test t) (all_pass test (take i ss)) before in
-        and_from (test t) (all_pass test (take (suc i) ss)) b.0 (go ss i (omega arith) is b.1)
+-- what is asked of a standing set is whether the path meets it
+pub asked_meets : (means : Meaning) (m : Model) (path : Path) (table : ArrayVec (ArrayVec ℕ)) (i : ℕ) (s : CutSet) (row : ArrayVec ℕ) → Sound m → PathTied m.parts path → length path.levels ≡ 64 → RowsTied m table → i < length m.sets → s ≡ get_or m.sets i s → row ≡ get_or table.items i row → answer means s.required (levels_of path.levels s.members) row.items ≡ meets means m (filled m.parts (path_of path)) s
+asked_meets means m path table i s row sound path-tied long rows-tied within is at =
+    let f : CutSet → List ℕ = λ set. rows m.apart set.members in
+    let as_many : length table.items ≡ length m.sets = sym (length-map table.items (λ (r : ArrayVec ℕ). r.items)) ∙ ap length rows-tied ∙ length-map m.sets f in
+    let its_rows : row.items ≡ rows m.apart s.members =
+    ap (λ (r : ArrayVec ℕ). r.items) at ∙ sym (get_or-map (λ (r : ArrayVec ℕ). r.items) table.items i row [] (omega arith)) ∙ ap (λ rs. get_or rs i []) rows-tied ∙ get_or-map f m.sets i s [] within ∙ ap f (sym is) in
+    let set_sound : SoundSet (length m.parts) (get_or m.sets i s) = All-get_or (SoundSet (length m.parts)) m.sets i s within sound.sets in
+    let standing : AllByRecursion (λ k. k < length m.parts) s.members = rw is set_sound.standing in
+    let its_levels = same_levels path.levels (filled m.parts (path_of path)) (length m.parts) s.members (λ k stands. sym (filled_at m.parts path path-tied (omega (arith, sound.few_parts)) k stands)) standing in
+    λ t. answer means s.required (its_levels t) (its_rows t)
 
-pub passes_all : (test : CutSet → Bool) (ss : List CutSet) (i : ℕ) → length ss ≤ i → all_pass test (take i ss) ≡ true → None ≡ first_unmet test ss
-passes_all test ss i past all = sym (cond-true (all_pass test ss) None (Some (first_failing test ss)) (ap (all_pass test) (sym (take_all i ss past)) ∙ all))
+-- every set before place i passes
+pub record PassesUpto (test : CutSet → Bool) (sets : List CutSet) (i : ℕ) : Type 0 where
+  pub passes : all_pass test sets ≡ all_pass test (drop i sets)
+  pub failing : first_failing test sets ≡ i + first_failing test (drop i sets)
 
--- what is asked of a stored set is whether the path meets it
-module _ (means : Meaning) (m : Model) (sound : Sound m) (xs : List draft.CutSet) (value : map set_of xs ≡ m.sets) (i : ℕ) (s : draft.CutSet) (within : i < length xs) (is : s ≡ get_or xs i s) where
-  pub asked_meets : (table : List (List ℕ)) (path : Path) → RowsTied m table → PathTied m.parts path → length path.levels ≡ 64 → answer means (set_of s).required (levels_of path.levels (set_of s).members) (take (length (set_of s).members) (get_or table i [])) ≡ meets means m (filled m.parts (path_of path)) (set_of s)
-  asked_meets table path rows-tied path-tied long =
-      let ms = (set_of s).members in
-      let levels = filled m.parts (path_of path) in
-      let room : length m.parts ≤ length path.levels = omega (arith, sound.few_parts) in
-      let agree : AllByRecursion (λ k. get_or path.levels k 0 ≡ get_or levels k 0) ms = All-weaker (λ k. k < length m.parts) (λ k. get_or path.levels k 0 ≡ get_or levels k 0) (λ k stands. sym (filled_at m.parts path path-tied room k stands)) ms (set_sound m sound xs value i s within is).standing in
-      let here : take (length ms) (get_or table i []) ≡ rows m.apart ms = subst (λ (t : CutSet). take (length t.members) (get_or table i []) ≡ rows m.apart t.members) (set_at m sound xs value i s within is (set_of s)) (rows-tied i (set_of s) (omega (arith, sets_count m sound xs value))) in
-      λ t. answer means (set_of s).required (same_levels path.levels levels ms agree t) (here t)
+module _ (test : CutSet → Bool) (sets : List CutSet) (i : ℕ) where
+  module _ (s : CutSet) (within : i < length sets) (is : s ≡ get_or sets i s) (before : PassesUpto test sets i) where
+    pub fails_here : test s ≡ false → Some i ≡ first_unmet test sets
+    fails_here fails =
+        let passes = at_drop_more (all_pass test) sets i s within in
+        let failing = at_drop_more (first_failing test) sets i s within in
+        grind (arith, nat_tests)
+
+    pub passes_here : test s ≡ true → PassesUpto test sets (i + 1)
+    passes_here met =
+        let passes = at_drop_more (all_pass test) sets i s within in
+        let failing = at_drop_more (first_failing test) sets i s within in
+        record { passes = grind (arith, nat_tests); failing = grind (arith, nat_tests) }
+
+  pub passes_all : length sets ≤ i → PassesUpto test sets i → None ≡ first_unmet test sets
+  passes_all past before =
+      let passes = at_drop_all (all_pass test) sets i past in
+      grind (arith, nat_tests)

@@ -1,9 +1,9 @@
 -- What the fronts of a path cost, and where a path advances to, one part at a time. Assumes nothing.
-use Rattle.std.proofs.Common.{◌≡◌, ℕ, zero, suc, ◌+◌, ◌-◌, ◌<◌, ◌≤◌, Bool, true, false, cond, ltb, ◌≢◌, List, [], ◌∷◌, ◌++◌, map, length, get_or, take, drop, set, Some, None, Option, sym, refl, ap, ◌∙◌, subst, ⊎_elim, add-one, arith}
+use Rattle.std.proofs.Common.{◌≡◌, ℕ, ◌+◌, ◌<◌, ◌≤◌, Bool, true, false, cond, ltb, List, [], ◌∷◌, ◌++◌, length, get_or, take, set, Some, None, Option, sym, refl, ap, ◌∙◌, subst, ⊎_elim, add-one, arith}
 use Rattle.std.specs.List.{AllByRecursion}
 use Rattle.std.proofs.ByRecursion.{All-get_or}
-use Rattle.std.proofs.lemmas.List.{length-take-le, length-map, length-set, get_or-map, get_or-set_same, get_or-set_other, take_more, take_more_set, take-set-le}
-use Rattle.std.proofs.lemmas.Bool.{cases_eq, cond-true, cond-false}
+use Rattle.std.proofs.lemmas.List.{length-take-le, get_or-map, get_or-set_same, get_or-set_other, take_more, take-set-le}
+use Rattle.std.proofs.lemmas.Bool.{cases_eq}
 use Rattle.cost.specs.declared.quote.Quote.{Quote}
 use Rattle.cost.specs.Totals.{cost_of}
 use Rattle.theory.specs.declared.part.Part.{Part}
@@ -11,7 +11,6 @@ use Rattle.theory.specs.Model.{SoundPart}
 use Rattle.theory.specs.Allocations.{Rule, quote_at, chosen_quotes}
 use Rattle.theory.specs.Walks.{ceilings, raised, advance}
 use Rattle.search.specs.declared.path.Path.{Path}
-use Rattle.search.specs.State.{path_of}
 use Rattle.search.specs.Ties.{PathTied, AmountsUpto}
 
 -- a part's ceiling

@@ -1,4 +1,2 @@
-pub mod Filling
-pub mod Stored
 pub mod Asked
 pub mod Fronts

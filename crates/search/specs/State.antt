@@ -1,5 +1,5 @@
 -- What the state of a search stands for in the walk.
-use Rattle.std.specs.Prelude.{ℕ, Bool, true, false, cond, List, take, Some, None, Option}
+use Rattle.std.specs.Prelude.{ℕ, Bool, true, false, List, take, Some, None, Option, if◌then◌else◌}
 use Rattle.std.specs.Option.{option_map}
 use Rattle.theory.specs.declared.verdict.Verdict.{Verdict}
 use Rattle.theory.specs.declared.verdict.Verdict.TheVariants as told
@@ -16,7 +16,7 @@ path_of path = take path.count path.levels
 
 -- The number of the first set that fails a test, or none where all pass.
 abbrev pub first_unmet : (CutSet → Bool) → List CutSet → Option ℕ
-first_unmet test sets = cond (all_pass test sets) None (Some (first_failing test sets))
+first_unmet test sets = if all_pass test sets then None else Some (first_failing test sets)
 
 module _ {A : Type 0} where
   -- A best plan, as the walk has it.

@@ -1,24 +1,19 @@
 -- How the tables of a search are tied to the model of its draft.
-use Rattle.std.specs.Prelude.{◌≡◌, ℕ, ◌<◌, ◌≤◌, Bool, true, List, [], length, get_or, take, Some, None, ◌==◌, slice_index, slice_index_or}
+use Rattle.std.specs.Prelude.{◌≡◌, ℕ, ◌<◌, ◌≤◌, Bool, true, List, map, length, take, Some, None, ◌==◌, slice_index, slice_index_or}
+use Rattle.arrayvec.specs.ArrayVec.{ArrayVec}
 use Rattle.cost.specs.declared.rule.CostRule.{Ghosts}
 use Rattle.cost.specs.Totals.{cost_of}
 use Rattle.theory.specs.declared.part.Part.{Part}
-use Rattle.theory.specs.Model.{CutSet, Model}
+use Rattle.theory.specs.Model.{Model}
 use Rattle.theory.specs.Allocations.{Rule, rows, chosen_quotes}
 use Rattle.theory.specs.Walks.{ceilings}
 use Rattle.search.specs.declared.path.Path.{Path}
 use Rattle.search.specs.declared.progress.Progress.{Progress}
 use Rattle.search.specs.declared.progress.Progress.TheVariants.{Running, Settled, Blocked}
 
--- The table has the rows of the members of each of the first n sets.
-abbrev pub RowsUpto : Model → List (List ℕ) → ℕ → Type 0
-RowsUpto model table n =
-    (i : ℕ) (d : CutSet) → i < n →
-    take (length (get_or model.sets i d).members) (slice_index_or table i []) ≡ rows model.apart (get_or model.sets i d).members
-
--- The table has the rows of every set.
-abbrev pub RowsTied : Model → List (List ℕ) → Type 0
-RowsTied model table = RowsUpto model table (length model.sets)
+-- The table has the rows of the members of every set.
+abbrev pub RowsTied : Model → ArrayVec (ArrayVec ℕ) → Type 0
+RowsTied model table = map (λ r. r.items) table.items ≡ map (λ set. rows model.apart set.members) model.sets
 
 -- A path is on the parts: no level is above its part's ceiling, and beyond the path each level is that ceiling.
 abbrev pub PathTied : List Part → Path → Type 0

@@ -1,42 +1,39 @@
 // Which cut set is first not met by the levels that the search is at.
 
-ghost use Rattle.std.specs.Prelude.{◌≡◌, ◌<◌, length, take};
-ghost use Rattle.std.specs.List.{AllByRecursion};
+ghost use Rattle.std.specs.Prelude.{◌≡◌, ◌<◌, All};
 ghost use Rattle.scale.specs.Question.{answer};
 ghost use Rattle.theory.specs.Allocations.{levels_of, meets};
 ghost use Rattle.theory.specs.Walks.{filled};
-ghost use Rattle.draft.specs.Views.{set_of};
 ghost use Rattle.draft.specs.Drafts.{model};
 ghost use Rattle.search.specs.State.{path_of, first_unmet};
 ghost use Rattle.search.specs.Ties.{RowsTied, PathTied};
 
 use crate::path::Path;
+use crate::rows::Rows;
 use draft::cut_set::CutSet;
 use draft::draft::Draft;
+use scale::question::MOST_MEMBERS;
 use scale::scale::Scale;
+use theory::limits::MOST_PARTS;
 
 // Whether a set is met at the levels of all parts.
-fn is_met<S: Scale>(scale: &S, set: &CutSet, rows: &[u8; 8], levels: &[u8; 64]) -> bool
-    requires { AllByRecursion (λ m. m < 64) (set_of set.now).members }
-    ensures { result ≡ answer (S.Scale.means scale.now) (set_of set.now).required (levels_of levels.now (set_of set.now).members) (take (length (set_of set.now).members) rows.now) }
+fn is_met<S: Scale>(scale: &S, set: &CutSet, rows: &[u8], levels: &[u8; MOST_PARTS]) -> bool
+    requires { All (λ m. m < MOST_PARTS) set.now.members }
+    ensures { result ≡ answer (S.Scale.means scale.now) set.now.required (levels_of levels.now set.now.members) rows.now }
 {
     let members = set.members();
-    let mut at = [0; 8];
+    let mut at = [0; MOST_MEMBERS];
     for (i, member) in members.iter().enumerate() {
         at[i] = levels[*member as usize];
     }
-    scale.met(
-        set.required(),
-        &at[0..members.len()],
-        &rows[0..members.len()],
-    )
+    scale.met(set.required(), &at[..members.len()], rows)
 }
 
 // The first set that is not met by the path with the parts beyond it at their ceilings, or none.
 pub(crate) fn first_unmet<S: Scale>(
     scale: &S,
     draft: &Draft,
-    rows: &[[u8; 8]; 128],
+    rows: &Rows,
     path: &Path,
 ) -> Option<u32>
     requires rows { RowsTied (model draft.now) rows.now }

@@ -24,11 +24,7 @@ impl<A: Copy> Progress<A> {
     pub(crate) fn is_running(&self) -> bool
         ensures { result ≡ is_running self.now }
     {
-        match self {
-            Progress::Running(_) => true,
-            Progress::Settled(_) => false,
-            Progress::Blocked(_) => false,
-        }
+        matches!(self, Progress::Running(_))
     }
 
     pub(crate) fn verdict(&self) -> Verdict<A>

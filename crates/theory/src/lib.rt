@@ -4,6 +4,9 @@
 // A part, with its range and its quotes.
 pub mod part;
 
+// How much a project holds at most.
+pub mod limits;
+
 // Why a call is refused.
 pub mod refusal;
 

@@ -1,6 +1,6 @@
 // The five edits of a draft: each does what it names, or refuses and leaves the draft as it was.
 
-ghost use Rattle.std.specs.Prelude.{◌≡◌, ℕ, false, IfOk, OnErr};
+ghost use Rattle.std.specs.Prelude.{◌≡◌, ℕ, ◌<◌, ◌≤◌, ◌⊎◌, false, IfOk, OnErr, MatchResult};
 ghost use Rattle.theory.specs.Edits.{numbered, part_call, range_call, apart_call, cut_call, drop_call, part, range, pair, cut, drop_set};
 ghost use Rattle.draft.specs.Drafts.{model, Brings};
 
@@ -9,16 +9,22 @@ use crate::cut_set::CutSet;
 use crate::members::{all_stand, ascending};
 use crate::parts::part_record;
 use cost::quote::Quote;
+use scale::question::{HIGHEST, MOST_MEMBERS};
+use theory::limits::{MOST_PARTS, MOST_SETS};
 use theory::refusal::Refusal;
 
-// Levels go from 0 to this.
-const HIGHEST: u8 = 4;
-
-const MOST_PARTS: usize = 64;
-
-const MOST_SETS: usize = 128;
-
-const MOST_MEMBERS: usize = 8;
+// A range of levels goes from a floor up to a ceiling.
+fn check_range(floor: u8, ceiling: u8) -> Result<(), Refusal>
+    ensures { MatchResult result
+        (λ _. (floor ≤ ceiling) × (ceiling ≤ HIGHEST))
+        (λ refusal. (refusal ≡ Refusal.NoRange) × ((HIGHEST < ceiling) ⊎ (ceiling < floor))) }
+{
+    if floor <= ceiling && ceiling <= HIGHEST {
+        Ok(())
+    } else {
+        Err(Refusal::NoRange)
+    }
+}
 
 impl Draft {
     // Appends a part that is apart from none, and answers its number.
@@ -32,9 +38,7 @@ impl Draft {
         if number >= MOST_PARTS {
             return Err(Refusal::TooManyParts);
         }
-        if ceiling > HIGHEST || floor > ceiling {
-            return Err(Refusal::NoRange);
-        }
+        check_range(floor, ceiling)?;
         self.parts.add(part_record(floor, ceiling, quotes));
         Ok(number as u32)
     }
@@ -45,14 +49,9 @@ impl Draft {
         ensures kept { OnErr result (self.new ≡ self.old) }
         ensures history { Brings (model self.old) (range number floor ceiling) (model self.new) }
     {
-        let number = number as usize;
-        if number >= self.parts.count() {
-            return Err(Refusal::NoSuchPart);
-        }
-        if ceiling > HIGHEST || floor > ceiling {
-            return Err(Refusal::NoRange);
-        }
-        let lent = self.parts.record(number);
+        let place = self.parts.place(number)?;
+        check_range(floor, ceiling)?;
+        let lent = self.parts.record(place);
         lent.floor = floor;
         lent.ceiling = ceiling;
         Ok(())
@@ -64,14 +63,12 @@ impl Draft {
         ensures kept { OnErr result (self.new ≡ self.old) }
         ensures history { Brings (model self.old) (pair a b value) (model self.new) }
     {
-        let count = self.parts.count();
-        if a as usize >= count || b as usize >= count {
-            return Err(Refusal::NoSuchPart);
-        }
+        let a = self.parts.place(a)?;
+        let b = self.parts.place(b)?;
         if a == b {
             return Err(Refusal::SamePart);
         }
-        self.apart.declare(a as usize, b as usize, value);
+        self.apart.declare(a, b, value);
         Ok(())
     }
 

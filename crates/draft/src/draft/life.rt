@@ -8,13 +8,14 @@ use super::Draft;
 use crate::apart::Apart;
 use crate::parts::Parts;
 use std::alloc::{AllocError, Global};
+use theory::limits::MOST_SETS;
 
 impl Draft {
     // A draft without part, pair or set; only here can memory be wanting.
     pub fn new(heap: Global) -> Result<Draft, AllocError>
         ensures { IfOk result (λ draft. model draft ≡ edited []) }
     {
-        let sets = Vec::with_capacity(heap, 128)?;
+        let sets = Vec::with_capacity(heap, MOST_SETS)?;
         let parts = Parts::new(heap)?;
         Ok(Draft {
             parts,
@@ -34,8 +35,12 @@ impl Draft {
 
     // The memory is given back.
     pub fn close(self) {
-        let Draft { parts, apart, sets } = self;
-        parts.close();
+        let Draft {
+            parts,
+            apart: _,
+            sets,
+        } = self;
+        drop(parts);
         drop(sets);
     }
 }

@@ -1,10 +1,9 @@
 // What stands in a draft.
 
-ghost use Rattle.std.specs.Prelude.{◌≡◌, map, length};
-ghost use Rattle.std.specs.Option.{option_map};
+ghost use Rattle.std.specs.Prelude.{◌≡◌, length};
+ghost use Rattle.std.specs.Option.{option_copied};
 ghost use Rattle.std.specs.List.{slice_get};
 ghost use Rattle.theory.specs.Model.{Sound};
-ghost use Rattle.draft.specs.Views.{set_of};
 ghost use Rattle.draft.specs.Drafts.{model, apart_answer};
 
 use super::Draft;
@@ -34,7 +33,7 @@ impl Draft {
 
     // The cut sets, in the order of their numbers.
     pub fn sets(&self) -> &[CutSet]
-        ensures value { map set_of result.now ≡ (model self.now).sets }
+        ensures value { result.now ≡ (model self.now).sets }
         ensures sound { Sound (model self.now) }
     {
         self.sets.as_slice()
@@ -49,7 +48,7 @@ impl Draft {
 
     // A cut set, or none where no such set stands.
     pub fn set_at(&self, number: u32) -> Option<&CutSet>
-        ensures { option_map (λ set. set_of set.now) result ≡ slice_get (model self.now).sets number }
+        ensures { option_copied result ≡ slice_get (model self.now).sets number }
     {
         self.sets().get(number as usize)
     }
@@ -58,10 +57,8 @@ impl Draft {
     pub fn are_apart(&self, a: u32, b: u32) -> Option<bool>
         ensures { result ≡ apart_answer (model self.now) a b }
     {
-        let count = self.parts.count();
-        if a as usize >= count || b as usize >= count {
-            return None;
-        }
-        Some(self.apart.holds(a as usize, b as usize))
+        let a = self.parts.place(a).ok()?;
+        let b = self.parts.place(b).ok()?;
+        Some(self.apart.holds(a, b))
     }
 }

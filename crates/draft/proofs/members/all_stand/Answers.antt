@@ -1,24 +1,13 @@
-use Rattle.std.proofs.Common.{◌≡◌, ◌+◌, ◌&&◌, ltb, get_or, drop, sym, ◌∙◌, arith}
-use Rattle.std.proofs.lemmas.List.{at_drop_more, at_drop_all}
-use Rattle.std.proofs.lemmas.Bool.Decides.{nat_tests}
+use Rattle.std.proofs.Common.{◌&&◌, ltb, refl, ◌∙◌, rules, tests}
+use Rattle.std.proofs.lemmas.Iterator.{YieldsList-from_slice}
+use Rattle.std.proofs.lemmas.Iterator.Search.{all_from_yields_List}
+use Rattle.std.proofs.lemmas.List.Recursion.{same_from_clauses}
+use Rattle.std.specs.List.{list_all}
 use Rattle.theory.specs.Edits.{all_stand}
 use Rattle.draft.proofs.members.all_stand.Goals as goal
 
-pub returns-then-member-count : goal.returns-then-member-count
-returns-then-member-count c =
-    let xs = c.args.members.now in
-    let i = c.loop-member.member-index in
-    let n = c.args.count in
-    let s : all_stand n (drop i xs) ≡ (ltb (get_or xs i 0) n && all_stand n (drop (i + 1) xs)) = at_drop_more (all_stand n) xs i 0 c.loop-member-test.true in
-    grind (arith, nat_tests, c.loop-member.invariant)
-
-pub loop-member-preserved : goal.loop-member-preserved
-loop-member-preserved c =
-    let xs = c.args.members.now in
-    let i = c.loop-member.member-index in
-    let n = c.args.count in
-    let s : all_stand n (drop i xs) ≡ (ltb (get_or xs i 0) n && all_stand n (drop (i + 1) xs)) = at_drop_more (all_stand n) xs i 0 c.loop-member-test.true in
-    grind (arith, nat_tests, c.loop-member.invariant)
-
 pub returns : goal.returns
-returns c = sym (c.loop-member.invariant ∙ at_drop_all (all_stand c.args.count) _ _ c.loop-member-test.false)
+returns c =
+    let xs = c.args.members.now in
+    all_from_yields_List (λ m. ltb m c.args.count) _ _ _ c.all.ensures.ran (YieldsList-from_slice xs cc) (λ x b q k. search (rules, tests))
+    ∙ same_from_clauses (list_all (λ m. ltb m c.args.count)) (all_stand c.args.count) (λ m b. ltb m c.args.count && b) refl (λ _ _. refl) (λ _ _. refl) xs

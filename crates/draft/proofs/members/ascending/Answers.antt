@@ -1,17 +1,7 @@
-use Rattle.std.proofs.Common.{sym, ◌∙◌, arith}
-use Rattle.std.proofs.lemmas.Bool.Decides.{nat_tests}
-use Rattle.draft.proofs.Rising.{ascending_more, ascending_all}
+use Rattle.std.proofs.Common.{ltb, rules, tests}
+use Rattle.std.proofs.lemmas.List.Sorted.{answers_always}
+use Rattle.draft.proofs.Rising.{ascends_by_neighbours}
 use Rattle.draft.proofs.members.ascending.Goals as goal
 
-pub returns-then-members-i : goal.returns-then-members-i
-returns-then-members-i c =
-    let s = ascending_more c.args.members.now c.loop-i.i c.loop-i.auto.i c.loop-i-test.true in
-    grind (arith, nat_tests, c.loop-i.invariant)
-
-pub loop-i-preserved : goal.loop-i-preserved
-loop-i-preserved c =
-    let s = ascending_more c.args.members.now c.loop-i.i c.loop-i.auto.i c.loop-i-test.true in
-    grind (arith, nat_tests, c.loop-i.invariant)
-
 pub returns : goal.returns
-returns c = sym (c.loop-i.invariant ∙ ascending_all c.args.members.now c.loop-i.i c.loop-i-test.false)
+returns c = ascends_by_neighbours c.args.members.now _ (c.is_sorted_by.ensures.cases ltb (answers_always _ _ _ (λ f a r g k. search (rules, tests))))

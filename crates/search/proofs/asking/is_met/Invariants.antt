@@ -1,5 +1,5 @@
-use Rattle.std.proofs.Common.{◌≡◌, map, length, get_or, take}
+use Rattle.std.proofs.Common.{◌≡◌, map, length, take, slice_index}
 use Rattle.search.proofs.asking.is_met.Given as goal
 
 abbrev pub invariant-loop-i : goal.invariant-loop-i
-invariant-loop-i g l = (length l.at ≡ 8) × (take l.i l.at ≡ map (λ m. get_or l.levels m 0) (take l.i l.members))
+invariant-loop-i g l = (length l.at ≡ 8) × (take l.i l.at ≡ map (λ m. slice_index l.levels m) (take l.i l.members))

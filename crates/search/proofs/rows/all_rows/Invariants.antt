@@ -1,7 +1,7 @@
-use Rattle.std.proofs.Common.{◌≡◌, length}
+use Rattle.std.proofs.Common.{◌≡◌, map, take}
+use Rattle.theory.specs.Allocations.{rows}
 use Rattle.draft.specs.Drafts.{model}
-use Rattle.search.specs.Ties.{RowsUpto}
 use Rattle.search.proofs.rows.all_rows.Given as goal
 
-abbrev pub invariant-loop-i : goal.invariant-loop-i
-invariant-loop-i l = (length l.table ≡ 128) × RowsUpto (model l.draft) l.table l.i
+abbrev pub invariant-loop-set : goal.invariant-loop-set
+invariant-loop-set l = map (λ r. r.items) l.table.items ≡ map (λ set. rows (model l.draft).apart set.members) (take l.set-index l.set-items)

@@ -1,5 +1,5 @@
-use Rattle.std.proofs.Common.{◌≡◌, length, take}
+use Rattle.std.proofs.Common.{◌≡◌, take}
 use Rattle.draft.proofs.cut_set.CutSet.new.Given as goal
 
-abbrev pub invariant-loop-i : goal.invariant-loop-i
-invariant-loop-i l = (length l.copied ≡ 8) × (take l.i l.copied ≡ take l.i l.members)
+abbrev pub invariant-loop-member : goal.invariant-loop-member
+invariant-loop-member l = l.kept.items ≡ take l.member-index l.members

@@ -1,5 +1,10 @@
-use Rattle.draft.proofs.Models.{empty_view}
+use Rattle.std.proofs.Common.{◌≡◌, subst, arith, rules}
+use Rattle.theory.specs.Model.{Sound, empty_model}
+use Rattle.theory.proofs.Soundness.{empty_sound}
+use Rattle.draft.specs.Views.{view}
 use Rattle.draft.proofs.draft.Draft.clear.Goals as goal
 
-pub returns : goal.returns
-returns c = empty_view _ _ _ c.clear.ensures.items c.new-self.ensures c.clear-2.ensures.items
+pub invariant_of-self : goal.invariant_of-self
+invariant_of-self c =
+    let empty : empty_model ≡ view c.clear.new.self.records.items c.new-self.result.flags c.clear-2.new.self.items = search rules in
+    record { part_room = omega arith; set_room = omega arith; sound = subst Sound empty empty_sound }

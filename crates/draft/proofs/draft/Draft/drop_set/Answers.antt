@@ -1,28 +1,26 @@
-use Rattle.std.proofs.Common.{vec_items, sym, refl, arith}
-use Rattle.theory.specs.Edits.{drop_set}
-use Rattle.draft.specs.Views.{set_of}
-use Rattle.std.proofs.lemmas.List.{length-map}
+use Rattle.std.proofs.Common.{◌≡◌, arith, rules}
+use Rattle.theory.specs.Edits.{drop_set, edit_model}
+use Rattle.draft.specs.Views.{view}
 use Rattle.draft.specs.Drafts.{model}
-use Rattle.draft.proofs.Brought.{calls, brings}
-use Rattle.draft.proofs.Edited.{set_dropped}
-use Rattle.draft.proofs.Lawful.{laws_from_sound, sound_after}
+use Rattle.draft.proofs.Brought.{brings, sound_after}
+use Rattle.draft.proofs.Edited.{removed_without}
 use Rattle.draft.proofs.draft.Draft.drop_set.Goals as goal
+use Rattle.draft.proofs.draft.Draft.drop_set.Goals.{After-remove}
 
-pub returns-then-number-len : goal.returns-then-number-len
-returns-then-number-len c =
-    let d = c.args.self.now in
-    let does = sym ((calls.drop_set (model d) c.args.number).unknown (omega (arith, d.sets.ok.0, length-map (vec_items d.sets) set_of))) in
-    record { does = does; kept = refl; history = brings _ _ _ (λ i. (does i).1) }
+pub returns-then-number-len-clause-history : goal.returns-then-number-len-clause-history
+returns-then-number-len-clause-history c = brings _ _ _ (search rules)
+
+-- what the tables hold once the set is removed
+dropped : (c : After-remove) → view c.args.self.now.parts.records.items c.args.self.now.apart.flags c.remove.new.self.items ≡ edit_model (model c.args.self.now) (drop_set c.args.number)
+dropped c = search (rules, removed_without)
 
 pub invariant_of-self : goal.invariant_of-self
 invariant_of-self c =
     let d = c.args.self.now in
-    let does = set_dropped d (omega arith) c.remove.ensures.items in
-    let sound = sound_after d (drop_set c.args.number) tt _ (λ i. (does i).1) in
-    record { part_room = omega arith; set_room = omega arith; laws = laws_from_sound _ sound; standing = sound.only_standing }
+    record { part_room = d.part_room; set_room = omega arith; sound = sound_after d (drop_set c.args.number) tt _ (dropped c) }
 
-pub returns : goal.returns
-returns c =
-    let d = c.args.self.now in
-    let does = set_dropped d (omega arith) c.remove.ensures.items in
-    record { does = does; kept = tt; history = brings _ _ _ (λ i. (does i).1) }
+pub returns-clause-does : goal.returns-clause-does
+returns-clause-does c = search (rules, removed_without)
+
+pub returns-clause-history : goal.returns-clause-history
+returns-clause-history c = brings _ _ _ (dropped (goal.at.returns-clause-history c).After-remove)

@@ -1,33 +1,32 @@
-use Rattle.std.proofs.Common.{◌<◌, ◌⊎◌, sym, refl, inl, inr, ⊎_elim, arith}
-use Rattle.theory.specs.Edits.{range}
+use Rattle.std.proofs.Common.{◌≡◌, set, rules}
+use Rattle.theory.specs.Edits.{range, edit_model}
+use Rattle.draft.specs.Views.{view}
 use Rattle.draft.specs.Drafts.{model}
-use Rattle.draft.proofs.Brought.{calls, brings}
-use Rattle.draft.proofs.Edited.{range_changed}
-use Rattle.draft.proofs.Lawful.{laws_from_sound, sound_after}
+use Rattle.draft.proofs.Brought.{brings, sound_after}
+use Rattle.draft.proofs.Edited.{ranged_set}
 use Rattle.draft.proofs.draft.Draft.range.Goals as goal
+use Rattle.draft.proofs.draft.Draft.range.Goals.{After-record-lent}
 
-pub returns-then-number-count : goal.returns-then-number-count
-returns-then-number-count c =
-    let d = c.args.self.now in
-    let does = sym ((calls.range (model d) c.args.number c.args.floor c.args.ceiling).unknown (omega (arith, d.parts.records.ok.0))) in
-    record { does = does; kept = refl; history = brings _ _ _ (λ i. (does i).1) }
+pub returns-in_err-place-clause-history : goal.returns-in_err-place-clause-history
+returns-in_err-place-clause-history c = brings _ _ _ (search rules)
 
-pub returns-then-ceiling-gt-HIGHEST : goal.returns-then-ceiling-gt-HIGHEST
-returns-then-ceiling-gt-HIGHEST c =
-    let d = c.args.self.now in
-    let bad : (4 < c.args.ceiling) ⊎ (c.args.ceiling < c.args.floor) = ⊎_elim (λ h. inl h) (λ h. inr h.1) c.then-ceiling-gt-HIGHEST.either in
-    let does = sym ((calls.range (model d) c.args.number c.args.floor c.args.ceiling).no_range (omega (arith, d.parts.records.ok.0)) bad) in
-    record { does = does; kept = refl; history = brings _ _ _ (λ i. (does i).1) }
+pub returns-in_err-check_range-clause-does : goal.returns-in_err-check_range-clause-does
+returns-in_err-check_range-clause-does c = search rules
+
+pub returns-in_err-check_range-clause-history : goal.returns-in_err-check_range-clause-history
+returns-in_err-check_range-clause-history c = brings _ _ _ (search rules)
+
+-- what the tables hold once the record is changed
+changed : (c : After-record-lent) → view (set c.args.self.now.parts.records.items c.in_ok-place.place (record { floor = c.args.floor; ceiling = c.args.ceiling; quotes = c.record-lent.result.now.quotes })) c.args.self.now.apart.flags c.args.self.now.sets.items ≡ edit_model (model c.args.self.now) (range c.args.number c.args.floor c.args.ceiling)
+changed c = search (rules, ranged_set)
 
 pub invariant_of-self : goal.invariant_of-self
 invariant_of-self c =
     let d = c.args.self.now in
-    let does = range_changed d c.count.ensures c.if-number-count.false c.if-ceiling-gt-HIGHEST.false c.if-floor-ceiling.false c.record-lent.ensures.value in
-    let sound = sound_after d (range c.args.number c.args.floor c.args.ceiling) tt _ (λ i. (does i).1) in
-    record { part_room = d.part_room; set_room = d.set_room; laws = laws_from_sound _ sound; standing = sound.only_standing }
+    record { part_room = d.part_room; set_room = d.set_room; sound = sound_after d (range c.args.number c.args.floor c.args.ceiling) tt _ (changed (goal.at.invariant_of-self c).After-record-lent) }
 
-pub returns : goal.returns
-returns c =
-    let d = c.args.self.now in
-    let does = range_changed d c.count.ensures c.if-number-count.false c.if-ceiling-gt-HIGHEST.false c.if-floor-ceiling.false c.record-lent.ensures.value in
-    record { does = does; kept = tt; history = brings _ _ _ (λ i. (does i).1) }
+pub returns-clause-does : goal.returns-clause-does
+returns-clause-does c = search (rules, ranged_set)
+
+pub returns-clause-history : goal.returns-clause-history
+returns-clause-history c = brings _ _ _ (changed (goal.at.returns-clause-history c).After-record-lent)
