@@ -5,11 +5,11 @@
 mod tests {
     use asil::groups::Asil;
     use dal::options::Dal;
+    use either::Either;
     use scale::scale::Scale;
     use standard::letters::LevelNames;
     use standard::words::{Standard, standard, word};
     use std::process::Abort;
-    use either::Either;
 
     // A required level, the members' levels, their rows, and whether that is met.
     #[derive(Clone, Copy)]
