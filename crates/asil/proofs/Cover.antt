@@ -1,11 +1,13 @@
 -- What can be split by a table whose rows are all the sums up to 4. Assumes nothing.
-use Rattle.std.proofs.Common.{◌≡◌, ℕ, suc, ◌+◌, ◌-◌, ◌<◌, ◌≤◌, min, Bool, true, false, ◌&&◌, ◌||◌, eqb, List, [], ◌∷◌, ◌++◌, length, Decides, refl, ap, ◌∙◌, inl, inr, ⊎_elim, arith}
-use Rattle.std.specs.List.{AllZip, ContainsAt, AllByRecursion}
-use Rattle.std.proofs.ByRecursion.{all-has}
-use Rattle.std.proofs.lemmas.Bool.{eqb-true, eq-eqb, and_parts, and_from, or_cases}
-use Rattle.std.proofs.lemmas.Bool.Decides.{Decides-by_or, Decides-like}
+use Rattle.std.proofs.Common.{◌≡◌, ℕ, suc, ◌+◌, ◌-◌, ◌<◌, ◌≤◌, min, Bool, true, ◌&&◌, ◌||◌, eqb, List, [], ◌∷◌, ◌++◌, length, Decides, refl, ◌∙◌, inl, inr, ⊎_elim, arith}
+use Rattle.std.specs.List.{AllZip, All, list_all, list_any}
+use Rattle.std.proofs.lemmas.List.Elements.{All-contains}
+use Rattle.std.proofs.lemmas.List.Sums.{AllPass-from_list_all}
+use Rattle.std.proofs.lemmas.Map.Views.{Contains-from_any}
+use Rattle.std.proofs.lemmas.Bool.{eqb-true, and_parts, or_cases}
+use Rattle.std.proofs.lemmas.Bool.Decides.{Decides-like}
 use Rattle.asil.specs.Groups.{total, chosen, Group, asil_test}
-use Rattle.scale.specs.Question.{formed, answer}
+use Rattle.scale.specs.Question.{formed}
 use Rattle.scale.proofs.Forms.{formed_parts, answer_decides}
 use Rattle.asil.specs.GroupTests.{asil_decides, taken_some}
 use Rattle.scale.specs.Rows.{all_below}
@@ -14,7 +16,7 @@ use Rattle.asil.specs.Patterns.{Row, Allows, Split, at, Splits, none, more, Cove
 
 -- each row is a sum
 abbrev pub Sums : List Row → Type 0
-Sums rows = AllByRecursion (λ p. p.0 ≡ p.1 + p.2) rows
+Sums rows = All (λ p. p.0 ≡ p.1 + p.2) rows
 
 -- and each sum up to 4 is a row, in one order or the other
 abbrev pub EverySum : List Row → Type 0
@@ -27,8 +29,8 @@ total_append (x ∷ xs) ys = omega (arith, total_append xs ys)
 module _ (rows : List Row) (sums : Sums rows) where
   allows_sum : (x a b : ℕ) → Allows rows x a b → x ≡ a + b
   allows_sum x a b h =
-      ⊎_elim (λ t. all-has (λ p. p.0 ≡ p.1 + p.2) rows (x, a, b) sums t)
-      (λ t. let e : x ≡ b + a = all-has (λ p. p.0 ≡ p.1 + p.2) rows (x, b, a) sums t in omega arith) h
+      ⊎_elim (λ t. All-contains (λ p. p.0 ≡ p.1 + p.2) rows (x, a, b) sums t)
+      (λ t. let e : x ≡ b + a = All-contains (λ p. p.0 ≡ p.1 + p.2) rows (x, b, a) sums t in omega arith) h
 
   split_total : {xs ys : List ℕ} → Split rows xs ys → total xs ≡ total ys
   split_total (at front back x a b h) =
@@ -81,52 +83,40 @@ module _ (table : List Row) (agrees : CoversBySum table) where
 
   pub met_by_patterns : MetByPatterns table
   met_by_patterns required levels rows =
-      answer_decides (formed required levels rows) (asil_test required levels rows) (answer asil_test required levels rows) (group_decides required levels rows) refl
+      answer_decides (formed required levels rows) (asil_test required levels rows) (group_decides required levels rows)
 
--- whether the table has a row, and every sum, as tests that antt computes
-abbrev is_row : ℕ → ℕ → ℕ → Row → Bool
-is_row x a b p = eqb p.0 x && eqb p.1 a && eqb p.2 b
+-- whether two rows are the same, whether the table has a row, and whether it has every sum, as tests that antt computes
+abbrev same_row : Row → Row → Bool
+same_row q p = eqb q.0 p.0 && eqb q.1 p.1 && eqb q.2 p.2
 
-abbrev has_row : ℕ → ℕ → ℕ → List Row → Bool
-has_row x a b [] = false
-has_row x a b (p ∷ ps) = is_row x a b p || has_row x a b ps
+same_row_is : (q p : Row) → same_row q p ≡ true → q ≡ p
+same_row_is q p e =
+    let first_two = and_parts (eqb q.0 p.0 && eqb q.1 p.1) (eqb q.2 p.2) e in
+    let each = and_parts (eqb q.0 p.0) (eqb q.1 p.1) first_two.0 in
+    let e0 = eqb-true q.0 p.0 each.0 in
+    let e1 = eqb-true q.1 p.1 each.1 in
+    let e2 = eqb-true q.2 p.2 first_two.1 in
+    λ i. (e0 i, e1 i, e2 i)
 
-is_row_decides : (x a b : ℕ) (p : Row) → Decides (is_row x a b p) (p ≡ (x, a, b))
-is_row_decides x a b p = (
-  (λ e. let q = and_parts (eqb p.0 x && eqb p.1 a) (eqb p.2 b) e in
-      let r = and_parts (eqb p.0 x) (eqb p.1 a) q.0 in
-      let ex = eqb-true p.0 x r.0 in
-      let ea = eqb-true p.1 a r.1 in
-      let eb = eqb-true p.2 b q.1 in
-      λ i. (ex i, ea i, eb i)),
-  (λ e. and_from (eqb p.0 x && eqb p.1 a) (eqb p.2 b)
-      (and_from (eqb p.0 x) (eqb p.1 a) (eq-eqb p.0 x (ap (λ (q : Row). q.0) e)) (eq-eqb p.1 a (ap (λ (q : Row). q.1) e)))
-      (eq-eqb p.2 b (ap (λ (q : Row). q.2) e))),
-)
-
-has_row_decides : (x a b : ℕ) (ps : List Row) → Decides (has_row x a b ps) (ContainsAt ps (x, a, b))
-has_row_decides x a b = Decides-by_or (is_row x a b) (λ p. p ≡ (x, a, b)) (has_row x a b) (is_row_decides x a b) refl (λ _ _. refl)
+abbrev has_row : List Row → Row → Bool
+has_row rows q = list_any (same_row q) rows
 
 abbrev every_test : List Row → Bool
-every_test rows = all_below (λ x. all_below (λ a. has_row x a (x - a) rows || has_row x (x - a) a rows) (suc x)) 5
+every_test rows = all_below (λ x. all_below (λ a. has_row rows (x, a, x - a) || has_row rows (x, x - a, a)) (suc x)) 5
 
 every_from : (rows : List Row) → every_test rows ≡ true → EverySum rows
 every_from rows e x a small within =
-    let row_of : ℕ → ℕ → Bool = λ x a. has_row x a (x - a) rows || has_row x (x - a) a rows in
+    let row_of : ℕ → ℕ → Bool = λ x a. has_row rows (x, a, x - a) || has_row rows (x, x - a, a) in
     let outer = all_below_at (λ x. all_below (row_of x) (suc x)) 5 e x (omega arith) in
     let inner = all_below_at (row_of x) (suc x) outer a (omega arith) in
-    ⊎_elim (λ t. inl ((has_row_decides x a (x - a) rows).0 t)) (λ t. inr ((has_row_decides x (x - a) a rows).0 t))
-    (or_cases (has_row x a (x - a) rows) (has_row x (x - a) a rows) inner)
+    ⊎_elim (λ t. inl (Contains-from_any same_row_is (x, a, x - a) rows t)) (λ t. inr (Contains-from_any same_row_is (x, x - a, a) rows t))
+    (or_cases (has_row rows (x, a, x - a)) (has_row rows (x, x - a, a)) inner)
 
 abbrev sums_test : List Row → Bool
-sums_test [] = true
-sums_test (p ∷ ps) = eqb p.0 (p.1 + p.2) && sums_test ps
+sums_test rows = list_all (λ p. eqb p.0 (p.1 + p.2)) rows
 
 sums_from : (rows : List Row) → sums_test rows ≡ true → Sums rows
-sums_from [] e = tt
-sums_from (p ∷ ps) e =
-    let parts = and_parts (eqb p.0 (p.1 + p.2)) (sums_test ps) e in
-    (eqb-true p.0 (p.1 + p.2) parts.0, sums_from ps parts.1)
+sums_from rows e = λ k d less. eqb-true _ _ (AllPass-from_list_all (λ p. eqb p.0 (p.1 + p.2)) rows e k d less)
 
 -- the table's two tests are all that its agreement rests on
 pub covers_by_tests : (rows : List Row) → sums_test rows ≡ true → every_test rows ≡ true → CoversBySum rows

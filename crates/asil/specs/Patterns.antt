@@ -1,6 +1,6 @@
 -- The decomposition patterns, what can be split by them, and how they agree with the automotive scale. Assumes nothing.
-use Rattle.std.specs.Prelude.{◌≡◌, ℕ, ◌<◌, ◌≤◌, Bool, true, ◌⊎◌, List, [], ◌∷◌, ◌++◌, length, Decides}
-use Rattle.std.specs.List.{AllZip, ContainsAt}
+use Rattle.std.specs.Prelude.{◌≡◌, ℕ, ◌<◌, ◌≤◌, ◌↔◌, IsTrue, Bool, true, ◌⊎◌, List, [], ◌∷◌, ◌++◌, length}
+use Rattle.std.specs.List.{AllZip, Contains}
 use Rattle.scale.specs.Question.{formed, answer}
 use Rattle.asil.specs.Groups.{total, chosen, Group, asil_test}
 
@@ -14,7 +14,7 @@ nine_rows = (4, 4, 0) ∷ (4, 3, 1) ∷ (4, 2, 2) ∷ (3, 3, 0) ∷ (3, 2, 1) �
 
 -- a pattern of the table is usable in either order
 abbrev pub Allows : List Row → ℕ → ℕ → ℕ → Type 0
-Allows table required first second = ContainsAt table (required, first, second) ⊎ ContainsAt table (required, second, first)
+Allows table required first second = Contains table (required, first, second) ⊎ Contains table (required, second, first)
 
 -- one entry of a list, at any place, is split by a pattern
 pub data Split (table : List Row) : List ℕ → List ℕ → Type 0 where
@@ -31,7 +31,7 @@ Covers table levels required = (parts : List ℕ) × (Splits table (required ∷
 
 -- one or more levels cover a required level exactly when their sum is enough
 abbrev pub CoversBySum : List Row → Type 0
-CoversBySum table = (levels : List ℕ) (required : ℕ) → 0 < length levels → required ≤ 4 → (Covers table levels required → required ≤ total levels) × (required ≤ total levels → Covers table levels required)
+CoversBySum table = (levels : List ℕ) (required : ℕ) → 0 < length levels → required ≤ 4 → (Covers table levels required ↔ (required ≤ total levels))
 
 -- some group's levels cover the required level
 abbrev pub GroupCovers : List Row → ℕ → List ℕ → List ℕ → Type 0
@@ -39,4 +39,4 @@ GroupCovers table required levels rows = (c : ℕ → Bool) × Group rows (lengt
 
 -- the automotive scale answers met exactly when the question is well-formed and some group covers
 abbrev pub MetByPatterns : List Row → Type 0
-MetByPatterns table = (required : ℕ) (levels rows : List ℕ) → Decides (answer asil_test required levels rows) ((formed required levels rows ≡ true) × GroupCovers table required levels rows)
+MetByPatterns table = (required : ℕ) (levels rows : List ℕ) → (IsTrue (answer asil_test required levels rows) ↔ ((formed required levels rows ≡ true) × GroupCovers table required levels rows))

@@ -1,37 +1,40 @@
 -- Raise, Reach and Bottom of the avionics scale. Assumes nothing.
 use Rattle.std.specs.Prelude.{◌≡◌, ℕ, zero, suc, ◌<◌, ◌≤◌, true, false, ◌⊎◌, List, length, slice_index, slice_index_or}
 use Rattle.std.proofs.Common.{inl, inr, ⊎_elim, arith}
-use Rattle.std.specs.List.{AllZip, AllByRecursion}
-use Rattle.std.proofs.ByRecursion.{All-get_or}
+use Rattle.std.specs.List.{AllZip, All}
 use Rattle.std.proofs.lemmas.Bool.{cases_Bool}
+use Rattle.std.proofs.lemmas.List.Elements.{length_all_zip, AllZip-get_or, All-get_or}
 use Rattle.scale.specs.Question.{Laws}
 use Rattle.dal.specs.Options.{Full, Pair, DalMet, dal_test}
 use Rattle.scale.proofs.Forms.{formed_parts}
-use Rattle.scale.proofs.Levels.{each_length, each_get_or}
 use Rattle.dal.specs.OptionTests.{dal_decides}
 
 module _ (levels higher rows : List ℕ) (rise : AllZip (λ low high. low ≤ high) levels higher) where
+  same : length levels ≡ length higher
+  same = length_all_zip (λ low high. low ≤ high) levels higher rise
+
+  up : (k : ℕ) → k < length levels → slice_index levels k ≤ slice_index higher k
+  up k less = AllZip-get_or (λ low high. low ≤ high) levels higher k 0 0 rise less
+
   full_rises : (full low : ℕ) → Full levels full low → Full higher full low
-  full_rises full low s =
-      let same = each_length (λ low high. low ≤ high) levels higher rise in (
-        s.0,
-        omega (arith, s.1),
-        omega (arith, s.2, each_get_or levels higher rise s.0),
-        λ k less differ. omega (arith, s.3 k (omega arith) differ, each_get_or levels higher rise k),
-      )
+  full_rises full low s = (
+    s.0,
+    omega (arith, s.1, same),
+    omega (arith, s.2, up s.0 s.1),
+    λ k less differ. let here : k < length levels = omega (arith, same) in omega (arith, s.3 k here differ, up k here),
+  )
 
   pair_rises : (each low : ℕ) → Pair levels rows each low → Pair higher rows each low
-  pair_rises each low s =
-      let same = each_length (λ low high. low ≤ high) levels higher rise in (
-        s.0,
-        s.1,
-        s.2,
-        omega (arith, s.3),
-        s.4,
-        omega (arith, s.5, each_get_or levels higher rise s.0),
-        omega (arith, s.6, each_get_or levels higher rise s.1),
-        λ k less not_i not_j. omega (arith, s.7 k (omega arith) not_i not_j, each_get_or levels higher rise k),
-      )
+  pair_rises each low s = (
+    s.0,
+    s.1,
+    s.2,
+    omega (arith, s.3, same),
+    s.4,
+    omega (arith, s.5, up s.0 (omega (arith, s.2, s.3))),
+    omega (arith, s.6, up s.1 s.3),
+    λ k less not_i not_j. let here : k < length levels = omega (arith, same) in omega (arith, s.7 k here not_i not_j, up k here),
+  )
 
   either_rises : (full each low : ℕ) → Full levels full low ⊎ Pair levels rows each low → Full higher full low ⊎ Pair higher rows each low
   either_rises full each low = ⊎_elim (λ s. inl (full_rises full low s)) (λ s. inr (pair_rises each low s))
@@ -45,12 +48,12 @@ module _ (levels higher rows : List ℕ) (rise : AllZip (λ low high. low ≤ hi
   rises (suc (suc (suc (suc (suc _))))) s = s
 
 module _ (levels rows : List ℕ) (some : 0 < length levels) where
-  full_reached : (full low : ℕ) → low ≤ full → AllByRecursion (λ level. full ≤ level) levels → Full levels full low
+  full_reached : (full low : ℕ) → low ≤ full → All (λ level. full ≤ level) levels → Full levels full low
   full_reached full low below h =
       let at : (k : ℕ) → k < length levels → full ≤ slice_index_or levels k 0 = λ k less. All-get_or (λ level. full ≤ level) levels k 0 less h in
       (0, some, at 0 some, λ k less differ. omega (arith, at k less))
 
-  reached : (required : ℕ) → required ≤ 4 → AllByRecursion (λ level. required ≤ level) levels → DalMet required levels rows
+  reached : (required : ℕ) → required ≤ 4 → All (λ level. required ≤ level) levels → DalMet required levels rows
   reached zero top h = tt
   reached (suc zero) top h = full_reached 1 0 (omega arith) h
   reached (suc (suc zero)) top h = inl (full_reached 2 0 (omega arith) h)
@@ -58,7 +61,7 @@ module _ (levels rows : List ℕ) (some : 0 < length levels) where
   reached (suc (suc (suc (suc zero)))) top h = inl (full_reached 4 2 (omega arith) h)
   reached (suc (suc (suc (suc (suc r))))) top h = absurd (omega arith)
 
-module _ (levels rows : List ℕ) (none : AllByRecursion (λ level. level ≡ 0) levels) where
+module _ (levels rows : List ℕ) (none : All (λ level. level ≡ 0) levels) where
   at_none : (k : ℕ) → k < length levels → slice_index levels k ≡ 0
   at_none k less = All-get_or (λ level. level ≡ 0) levels k 0 less none
 

@@ -1,76 +1,69 @@
 // The avionics scale: one member at the full level, or two that are apart at the pair's, and no other too low.
 
-ghost use Rattle.std.specs.Prelude.{◌≡◌, ℕ, ◌<◌, ◌≤◌, true, ◌||◌, length, Decides, slice_index};
+ghost use Rattle.std.specs.Prelude.{◌≡◌, ℕ, ◌<◌, ◌≤◌, ◌↔◌, IsTrue, ◌⊎◌, All, length, slice_index};
 ghost use Rattle.scale.specs.Question.{apart, formed, answer};
-ghost use Rattle.dal.specs.Options.{dal_test, full_test, pair_test, DalMet};
+ghost use Rattle.dal.specs.Options.{dal_test, Full, Pair, DalMet};
 ghost use Rattle.dal.specs.Laws.{dal_laws};
 
-use scale::question::{apart, well_formed};
+use scale::question::Question;
 use scale::scale::Scale;
 
 #[derive(Clone, Copy, PartialEq, Eq, Debug)]
 pub struct Dal;
 
 fn all_reach(levels: &[u8], low: u8) -> bool
-    ensures { Decides result ((k : ℕ) → k < length levels.now → low ≤ slice_index levels.now k) }
+    ensures { IsTrue result ↔ All (λ level. low ≤ level) levels.now }
 {
-    for level in levels {
-        if *level < low {
-            return false;
-        }
-    }
-    true
+    levels.iter().all(|level| *level >= low)
 }
 
+// Whether one member has at least the level `full`: the full option, where no other can be too low.
 fn one_reaches(levels: &[u8], full: u8) -> bool
-    ensures { Decides result ((k : ℕ) × (k < length levels.now) × (full ≤ slice_index levels.now k)) }
+    ensures { IsTrue result ↔ Full levels.now full 0 }
 {
-    for level in levels {
-        if *level >= full {
-            return true;
-        }
-    }
-    false
+    levels.iter().any(|level| *level >= full)
 }
 
-// Whether two members that are apart have at least the level `each`.
-fn two_reach(levels: &[u8], rows: &[u8], each: u8) -> bool
-    requires { (length levels.now ≡ length rows.now) × (length rows.now ≤ 8) }
-    ensures { Decides result ((i : ℕ) × (j : ℕ) × (i < j) × (j < length levels.now) × (apart rows.now i j ≡ true) × (each ≤ slice_index levels.now i) × (each ≤ slice_index levels.now j)) }
+// Whether two members that are apart have at least the level `each`: the pair option, where no other can be too low.
+fn two_reach(question: &Question, each: u8) -> bool
+    ensures { IsTrue result ↔ Pair question.now.levels.now question.now.rows.now each 0 }
 {
-    for j in 0..levels.len() {
-        if levels[j] >= each && partnered(levels, rows, each, j) {
-            return true;
-        }
-    }
-    false
+    let mut members = question.levels.iter().enumerate();
+    members.any(|(j, level)| *level >= each && partnered(question, each, j))
 }
 
 // Whether a member before j that is apart from it has at least the level `each`.
-fn partnered(levels: &[u8], rows: &[u8], each: u8, j: usize) -> bool
-    requires { (length levels.now ≡ length rows.now) × ((length rows.now ≤ 8) × (j < length levels.now)) }
-    ensures { Decides result ((i : ℕ) × (i < j) × (apart rows.now i j ≡ true) × (each ≤ slice_index levels.now i)) }
+fn partnered(question: &Question, each: u8, j: usize) -> bool
+    ensures { IsTrue result
+        ↔ ((i : ℕ) × (i < j) × (i < length question.now.levels.now)
+        × IsTrue (apart question.now.rows.now i j) × (each ≤ slice_index question.now.levels.now i)) }
 {
-    for i in 0..j {
-        if levels[i] >= each && apart(rows, i, j) {
-            return true;
-        }
-    }
-    false
+    let mut earlier = question.levels.iter().take(j).enumerate();
+    earlier.any(|(i, level)| *level >= each && question.apart(i, j))
 }
 
 // Whether no member is below `low`, and one has `full` or two that are apart have `each`.
-fn either_option(levels: &[u8], rows: &[u8], full: u8, each: u8, low: u8) -> bool
-    requires { (length levels.now ≡ length rows.now) × ((length rows.now ≤ 8) × ((low ≤ each) × (low ≤ full))) }
-    ensures { result ≡ (full_test levels.now full low || pair_test levels.now rows.now each low) }
+fn either_option(question: &Question, full: u8, each: u8, low: u8) -> bool
+    requires low_full { low ≤ full }
+    requires low_each { low ≤ each }
+    ensures { IsTrue result
+        ↔ (Full question.now.levels.now full low ⊎ Pair question.now.levels.now question.now.rows.now each low) }
 {
-    if !all_reach(levels, low) {
-        return false;
+    all_reach(question.levels, low)
+        && (one_reaches(question.levels, full) || two_reach(question, each))
+}
+
+// Whether the options of the required level are met.
+fn some_option(question: &Question) -> bool
+    ensures { IsTrue result ↔ DalMet question.now.required question.now.levels.now question.now.rows.now }
+{
+    match question.required {
+        0 => true,
+        1 => one_reaches(question.levels, 1),
+        2 => either_option(question, 2, 1, 0),
+        3 => either_option(question, 3, 2, 1),
+        _ => either_option(question, 4, 3, 2),
     }
-    if one_reaches(levels, full) {
-        return true;
-    }
-    two_reach(levels, rows, each)
 }
 
 impl Scale for Dal {
@@ -80,17 +73,9 @@ impl Scale for Dal {
 
     fn met(&self, required: u8, levels: &[u8], rows: &[u8]) -> bool
         ensures answers { result ≡ answer dal_test required levels.now rows.now }
-        ensures says { Decides result ((formed required levels.now rows.now ≡ true) × DalMet required levels.now rows.now) }
+        ensures says { IsTrue result
+            ↔ (IsTrue (formed required levels.now rows.now) × DalMet required levels.now rows.now) }
     {
-        if !well_formed(required, levels, rows) {
-            return false;
-        }
-        match required {
-            0 => true,
-            1 => one_reaches(levels, 1),
-            2 => either_option(levels, rows, 2, 1, 0),
-            3 => either_option(levels, rows, 3, 2, 1),
-            _ => either_option(levels, rows, 4, 3, 2),
-        }
+        Question::new(required, levels, rows).is_some_and(|question| some_option(&question))
     }
 }

@@ -1,6 +1,7 @@
 -- What a scale is asked, which questions are well-formed, and what every scale keeps. Assumes nothing.
-use Rattle.std.specs.Prelude.{◌≡◌, ℕ, ◌/◌, ◌%◌, ◌^◌, ◌<◌, ◌≤◌, Bool, true, false, ◌&&◌, List, [], ◌∷◌, length, ◌==◌, nat_le, nat_lt, slice_index}
-use Rattle.std.specs.List.{AllZip, AllByRecursion}
+use Rattle.std.specs.Prelude.{◌≡◌, ℕ, ◌<◌, ◌≤◌, Bool, true, false, ◌&&◌, List, length, ◌==◌, nat_le, nat_lt, slice_index}
+use Rattle.std.specs.Int.{bit_at}
+use Rattle.std.specs.List.{All, AllZip, list_all}
 
 -- a yes or no for each question: a required level, the members' levels and a row for each member
 abbrev pub Meaning : Type 0
@@ -8,7 +9,7 @@ Meaning = ℕ → List ℕ → List ℕ → Bool
 
 -- bit j of a row, bit 0 being the lowest
 abbrev pub bit : ℕ → ℕ → Bool
-bit row j = row / 2 ^ j % 2 == 1
+bit row j = bit_at row j == 1
 
 -- members i and j are apart when each one's row has the other's bit
 abbrev pub apart : List ℕ → ℕ → ℕ → Bool
@@ -16,8 +17,7 @@ apart rows i j = bit (slice_index rows i) j && bit (slice_index rows j) i
 
 -- no number of a list is above a top
 abbrev pub all_at_most : ℕ → List ℕ → Bool
-all_at_most top [] = true
-all_at_most top (x ∷ xs) = nat_le x top && all_at_most top xs
+all_at_most top = list_all (λ x. nat_le x top)
 
 -- a well-formed question: levels up to 4, one to eight members, and a row of eight bits for each
 abbrev pub formed : ℕ → List ℕ → List ℕ → Bool
@@ -34,9 +34,9 @@ pub record Laws (means : Meaning) : Type 0 where
   -- Raise: a set that is met stays met when any members' levels rise
   pub raise : (required : ℕ) (levels higher rows : List ℕ) → formed required levels rows ≡ true → formed required higher rows ≡ true → AllZip (λ low high. low ≤ high) levels higher → means required levels rows ≡ true → means required higher rows ≡ true
   -- Reach: a set whose members all have at least the required level is met
-  pub reach : (required : ℕ) (levels rows : List ℕ) → formed required levels rows ≡ true → AllByRecursion (λ level. required ≤ level) levels → means required levels rows ≡ true
+  pub reach : (required : ℕ) (levels rows : List ℕ) → formed required levels rows ≡ true → All (λ level. required ≤ level) levels → means required levels rows ≡ true
   -- Bottom: a set whose members are all at 0 does not meet a required level above 0
-  pub bottom : (required : ℕ) (levels rows : List ℕ) → formed required levels rows ≡ true → AllByRecursion (λ level. level ≡ 0) levels → 0 < required → means required levels rows ≡ false
+  pub bottom : (required : ℕ) (levels rows : List ℕ) → formed required levels rows ≡ true → All (λ level. level ≡ 0) levels → 0 < required → means required levels rows ≡ false
 
 -- a well-formed question that requires level 0 is met
 abbrev pub ZeroMet : Meaning → Type 0

@@ -1,8 +1,8 @@
 -- What the laws of a scale give of the sets of a project. Assumes nothing.
 use Rattle.std.proofs.Common.{◌≡◌, ℕ, zero, suc, ◌<◌, ◌≤◌, Bool, true, false, leb, List, [], ◌∷◌, map, length, get_or, refl, arith, pow_mono}
 use Rattle.std.specs.List.{AllZip, AllByRecursion}
-use Rattle.std.proofs.ByRecursion.{All-map}
 use Rattle.std.proofs.lemmas.List.{length-map}
+use Rattle.std.proofs.lemmas.List.Elements.{All-from_recursion, All-map}
 use Rattle.std.proofs.lemmas.Bool.{and_from, and_parts, and_right, both_ways, le-leb, lt-ltb, eq-eqb}
 use Rattle.scale.specs.Question.{Meaning, all_at_most, formed, answer, Laws}
 use Rattle.scale.proofs.Bits.{row_below}
@@ -66,10 +66,6 @@ map_at_most f top h (m ∷ ms) = and_from (leb (f m) top) (all_at_most top (map 
 each_map : (f g : ℕ → ℕ) → ((m : ℕ) → f m ≤ g m) → (ms : List ℕ) → AllZip (λ low high. low ≤ high) (map f ms) (map g ms)
 each_map f g h [] = tt
 each_map f g h (m ∷ ms) = (h m, each_map f g h ms)
-
-all_always : (P : ℕ → Type 0) → ((m : ℕ) → P m) → (ms : List ℕ) → AllByRecursion P ms
-all_always P h [] = tt
-all_always P h (m ∷ ms) = (h m, all_always P h ms)
 
 -- a sound set asks a well-formed question of levels up to 4
 pub formed_set : (apart : ℕ → ℕ → Bool) (levels : List ℕ) (n : ℕ) (s : CutSet) → ((k : ℕ) → get_or levels k 0 ≤ 4) → SoundSet n s → formed s.required (levels_of levels s.members) (rows apart s.members) ≡ true
@@ -137,7 +133,7 @@ module _ (means : Meaning) (laws : Laws means) (model : Model) (sound : Sound mo
       let f = formed_set model.apart levels (length model.parts) s (λ k. omega (arith, z k)) ok.0 in
       both_ways (meets means model levels s)
       (and_right (formed s.required (levels_of levels s.members) rs) (means s.required (levels_of levels s.members) rs)
-      (laws.bottom s.required (levels_of levels s.members) rs f (All-map (λ level. level ≡ 0) (λ m. get_or levels m 0) s.members (all_always (λ m. get_or levels m 0 ≡ 0) z s.members)) ok.0.some_level))
+      (laws.bottom s.required (levels_of levels s.members) rs f (All-map (λ level. level ≡ 0) (λ m. get_or levels m 0) s.members (λ k d less. z (get_or s.members k d))) ok.0.some_level))
       m.0
 
   -- members in reach meet every set
@@ -156,6 +152,6 @@ module _ (means : Meaning) (laws : Laws means) (model : Model) (sound : Sound mo
         let rs = rows model.apart s.members in
             let f = formed_set model.apart (ceilings model.parts) (length model.parts) s low ok.0 in
             by_meaning s.required (levels_of (ceilings model.parts) s.members) rs f
-            (laws.reach s.required (levels_of (ceilings model.parts) s.members) rs f (All-map (λ level. s.required ≤ level) (λ m. get_or (ceilings model.parts) m 0) s.members h.0)),
+            (laws.reach s.required (levels_of (ceilings model.parts) s.members) rs f (All-map (λ level. s.required ≤ level) (λ m. get_or (ceilings model.parts) m 0) s.members (All-from_recursion (λ m. s.required ≤ get_or (ceilings model.parts) m 0) s.members h.0))),
         go ss ok.1 h.1,
       )
