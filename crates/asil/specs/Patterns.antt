@@ -1,5 +1,5 @@
 -- The decomposition patterns, what can be split by them, and how they agree with the automotive scale. Assumes nothing.
-use Rattle.std.specs.Prelude.{◌≡◌, ℕ, ◌<◌, ◌≤◌, ◌↔◌, IsTrue, Bool, true, ◌⊎◌, List, [], ◌∷◌, ◌++◌, length}
+use Rattle.std.specs.Prelude.{ℕ, ◌<◌, ◌≤◌, ◌↔◌, IsTrue, Bool, ◌⊎◌, List, [], ◌∷◌, ◌++◌, length}
 use Rattle.std.specs.List.{AllZip, Contains}
 use Rattle.scale.specs.Question.{formed, answer}
 use Rattle.asil.specs.Groups.{total, chosen, Group, asil_test}
@@ -39,4 +39,4 @@ GroupCovers table required levels rows = (c : ℕ → Bool) × Group rows (lengt
 
 -- the automotive scale answers met exactly when the question is well-formed and some group covers
 abbrev pub MetByPatterns : List Row → Type 0
-MetByPatterns table = (required : ℕ) (levels rows : List ℕ) → (IsTrue (answer asil_test required levels rows) ↔ ((formed required levels rows ≡ true) × GroupCovers table required levels rows))
+MetByPatterns table = (required : ℕ) (levels rows : List ℕ) → (IsTrue (answer asil_test required levels rows) ↔ (IsTrue (formed required levels rows) × GroupCovers table required levels rows))

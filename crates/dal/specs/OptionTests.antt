@@ -1,32 +1,30 @@
 -- The tests of the avionics scale decide what is said of it. Assumes nothing.
-use Rattle.std.specs.Prelude.{◌≡◌, ℕ, zero, suc, ◌<◌, ◌≤◌, Bool, true, ◌&&◌, ◌||◌, ◌⊎◌, List, length, Decides, ◌==◌, ◌≢◌, nat_le, slice_index, refl}
+use Rattle.std.specs.Prelude.{◌≡◌, ℕ, zero, suc, ◌<◌, ◌≤◌, Bool, true, false, ◌&&◌, ◌||◌, ◌⊎◌, List, length, Decides, ◌==◌, ◌≢◌, nat_le, slice_index, refl}
 use Rattle.std.proofs.Common.{sym, inl, inr, ⊎_elim}
-use Rattle.std.proofs.lemmas.Bool.{cases_eq, true≢false}
+use Rattle.std.proofs.lemmas.Bool.{true≢false}
 use Rattle.std.proofs.lemmas.Bool.Decides.{Decides-and, Decides-or, Decides-eqb, Decides-like}
 use Rattle.scale.specs.Question.{apart}
 use Rattle.scale.specs.Rows.{any_below, all_below}
 use Rattle.dal.specs.Options.{Full, Pair, DalMet, full_test, pair_test, dal_test}
 use Rattle.scale.proofs.Below.{decides_leb, decides_itself, any_decides, all_decides}
 
-otherwise : {P Q : Type 0} → P ⊎ Q → (P → ⊥) → Q
-otherwise (inl p) h = absurd (h p)
-otherwise (inr q) h = q
+-- a test that passes where A holds, and otherwise where Q does
+unless : {A Q : Type 0} (a q : Bool) → Decides a A → Decides q Q → Decides (a || q) (¬ A → Q)
+unless true q on rest = ((λ e not. absurd (not (on.0 refl))), (λ h. refl))
+unless false q on rest = ((λ e not. rest.0 e), (λ h. rest.1 (h (λ x. true≢false (sym (on.1 x))))))
 
 module _ (levels : List ℕ) (low : ℕ) where
   others_but : (i : ℕ) → Decides (all_below (λ k. k == i || nat_le low (slice_index levels k)) (length levels)) ((k : ℕ) → k < length levels → k ≢ i → low ≤ slice_index levels k)
   others_but i =
-      Decides-like (all_below (λ k. k == i || nat_le low (slice_index levels k)) (length levels))
-      (λ h k less differ. otherwise (h k less) differ)
-      (λ h k less. ⊎_elim inl (λ differ. inr (h k less differ)) (cases_eq k i))
-      (all_decides (λ k. k == i || nat_le low (slice_index levels k)) (λ k. (k ≡ i) ⊎ (low ≤ slice_index levels k)) (λ k. Decides-or (k == i) (nat_le low (slice_index levels k)) (Decides-eqb k i) (decides_leb low (slice_index levels k))) (length levels))
+      all_decides (λ k. k == i || nat_le low (slice_index levels k)) (λ k. k ≢ i → low ≤ slice_index levels k)
+      (λ k. unless (k == i) (nat_le low (slice_index levels k)) (Decides-eqb k i) (decides_leb low (slice_index levels k))) (length levels)
 
   others_but_two : (i j : ℕ) → Decides (all_below (λ k. k == i || k == j || nat_le low (slice_index levels k)) (length levels)) ((k : ℕ) → k < length levels → k ≢ i → k ≢ j → low ≤ slice_index levels k)
   others_but_two i j =
-      Decides-like (all_below (λ k. k == i || k == j || nat_le low (slice_index levels k)) (length levels))
-      (λ h k less not_i not_j. otherwise (h k less) (λ either. ⊎_elim not_i not_j either))
-      (λ h k less. ⊎_elim (λ e. inl (inl e)) (λ not_i. ⊎_elim (λ e. inl (inr e)) (λ not_j. inr (h k less not_i not_j)) (cases_eq k j)) (cases_eq k i))
-      (all_decides (λ k. k == i || k == j || nat_le low (slice_index levels k)) (λ k. ((k ≡ i) ⊎ (k ≡ j)) ⊎ (low ≤ slice_index levels k))
-      (λ k. Decides-or (k == i || k == j) (nat_le low (slice_index levels k)) (Decides-or (k == i) (k == j) (Decides-eqb k i) (Decides-eqb k j)) (decides_leb low (slice_index levels k))) (length levels))
+      all_decides (λ k. k == i || k == j || nat_le low (slice_index levels k)) (λ k. k ≢ i → k ≢ j → low ≤ slice_index levels k)
+      (λ k. Decides-like (k == i || k == j || nat_le low (slice_index levels k))
+      (λ h not_i not_j. h (⊎_elim not_i not_j)) (λ h neither. h (λ e. neither (inl e)) (λ e. neither (inr e)))
+      (unless (k == i || k == j) (nat_le low (slice_index levels k)) (Decides-or (k == i) (k == j) (Decides-eqb k i) (Decides-eqb k j)) (decides_leb low (slice_index levels k)))) (length levels)
 
   full_decides : (full : ℕ) → Decides (full_test levels full low) (Full levels full low)
   full_decides full =

@@ -8,14 +8,12 @@ use Rattle.scale.specs.Question.{all_at_most, formed}
 
 pub record Formed (required : ℕ) (levels rows : List ℕ) : Type 0 where
   pub top : required ≤ 4
-  pub same : length levels ≡ length rows
   pub some : 0 < length levels
   pub few : length levels ≤ 8
 
 pub formed_parts : (required : ℕ) (levels rows : List ℕ) → formed required levels rows ≡ true → Formed required levels rows
 formed_parts required levels rows e = record {
   top = grind (arith, nat_tests);
-  same = grind (arith, nat_tests);
   some = grind (arith, nat_tests);
   few = grind (arith, nat_tests);
 }
