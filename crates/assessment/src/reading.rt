@@ -58,7 +58,7 @@ fn read_pairs(words: Words, members: usize) -> Option<[u8; MOST_MEMBERS]>
     Some(rows)
 }
 
-// The levels of one to eight members, up to the slash.
+// The levels of one to eight members, up to the slash; the words after it are the caller's.
 fn read_members(standard: &Standard, words: &mut Words) -> Option<Levels>
     ensures read { option_map (λ levels. (levels.items, words.new)) result ≡ read_members (level_names standard.now) words.old }
     ensures few { IfSome result (λ levels. array_vec_len levels ≤ 8) }

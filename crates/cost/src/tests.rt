@@ -23,6 +23,7 @@ const TABLE: [([(u32, u32); 2], u64, u32, (u64, u64)); 4] = [
     ),
 ];
 
+// No `From`, which would be public for the tests alone.
 fn made((price, weeks): (u32, u32)) -> Quote {
     Quote { price, weeks }
 }

@@ -9,7 +9,8 @@ use crate::sum::Sum;
 use either::{Either, Left, Right};
 use std::alloc::{AllocError, Global};
 
-// Rules whose amounts can be printed.
+// Rules whose amounts can be printed; each prints its own kind, since one impl for all amounts with `Display` would meet that
+// of `Staged`, whose amount is a pair.
 pub trait AmountText: CostRule {
     // The bytes that are printed of an amount.
     ghost shown: { Self → Self.Amount → List ℕ };

@@ -9,6 +9,7 @@ ghost use Rattle.theory.specs.contracts.part.Part.{the_row as part-row};
 ghost use Rattle.draft.specs.contracts.parts.Parts.{the_row as parts-row};
 
 use cost::quote::Quote;
+use scale::question::LEVELS;
 use std::alloc::{AllocError, Global};
 use theory::limits::MOST_PARTS;
 use theory::part::Part;
@@ -25,7 +26,7 @@ fn fits(quote: Quote)
 {}
 
 // A part's record, built here alone.
-pub(crate) fn part_record(floor: u8, ceiling: u8, quotes: [Quote; 5]) -> Part
+pub(crate) fn part_record(floor: u8, ceiling: u8, quotes: [Quote; LEVELS]) -> Part
     ensures value { result ≡ record { floor = floor; ceiling = ceiling; quotes = quotes } }
     ensures handed { Handed (part floor ceiling quotes) }
 {
@@ -67,7 +68,7 @@ impl Parts {
         self.records.as_slice()
     }
 
-    // Where a part's record is.
+    // Where a part's record is; `as`, since `usize` has no `From<u32>`.
     pub(crate) fn place(&self, number: u32) -> Result<usize, Refusal>
         ensures { MatchResult result
             (λ place. (place ≡ number) × (place < vec_len self.now.records))

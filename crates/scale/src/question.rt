@@ -3,8 +3,11 @@
 ghost use Rattle.std.specs.Prelude.{◌≡◌, ◌↔◌, IsTrue, IsSome, IfSome};
 ghost use Rattle.scale.specs.Question.{bit, apart, all_at_most, formed};
 
-// Levels go from 0 to this.
+// Levels go from 0 to this; they are numbers and no enum, since every call answers for every number.
 pub const HIGHEST: u8 = 4;
+
+// How many levels there are.
+pub const LEVELS: usize = 5;
 
 // A cut set has one to this many members, a bit of a row for each.
 pub const MOST_MEMBERS: usize = 8;

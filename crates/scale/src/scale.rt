@@ -7,7 +7,8 @@ pub trait Scale {
     // A yes or no for each question.
     ghost means: { Self → Meaning };
 
-    // Whether members at these levels, apart as the rows say, meet the required level.
+    // Whether members at these levels, apart as the rows say, meet the required level; three values and no `Question`, since
+    // anybody may ask anything.
     fn met(&self, required: u8, levels: &[u8], rows: &[u8]) -> bool
         ensures { result ≡ answer (means self.now) required levels.now rows.now };
 

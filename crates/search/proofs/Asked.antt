@@ -1,9 +1,9 @@
 -- What a scale is asked of a set: the rows, the levels, and which set is the first that fails. Assumes nothing.
-use Rattle.std.proofs.Common.{◌≡◌, ℕ, ◌+◌, ◌-◌, ◌*◌, ◌%◌, ◌^◌, ◌<◌, ◌≤◌, Bool, true, false, cond, List, [], ◌∷◌, length, get_or, take, drop, Some, None, sym, refl, ap, ◌∙◌, ⊎_elim, add-one, arith, pow_mono}
+use Rattle.std.proofs.Common.{◌≡◌, ℕ, ◌+◌, ◌-◌, ◌*◌, ◌%◌, ◌^◌, ◌<◌, ◌≤◌, Bool, true, false, cond, List, [], ◌∷◌, length, get_or, take, drop, Some, sym, refl, ap, ◌∙◌, ⊎_elim, add-one, arith, pow_mono}
 use Rattle.std.specs.List.{AllByRecursion}
 use Rattle.std.proofs.ByRecursion.{All-get_or}
 use Rattle.std.proofs.lemmas.Nat.{one_shl}
-use Rattle.std.proofs.lemmas.List.{length-map, length-take-le, get_or_append_left, get_or-append_right, get_or-take, get_or-drop, get_or-map, drop-map, at_drop_more, at_drop_all}
+use Rattle.std.proofs.lemmas.List.{length-map, length-take-le, get_or_append_left, get_or-append_right, get_or-take, get_or-drop, get_or-map, drop-map, at_drop_more}
 use Rattle.std.proofs.lemmas.Bool.{cases_lt}
 use Rattle.std.proofs.lemmas.Bool.Decides.{nat_tests}
 use Rattle.arrayvec.specs.ArrayVec.{ArrayVec}
@@ -84,8 +84,3 @@ module _ (test : CutSet → Bool) (sets : List CutSet) (i : ℕ) where
         let passes = at_drop_more (all_pass test) sets i s within in
         let failing = at_drop_more (first_failing test) sets i s within in
         record { passes = grind (arith, nat_tests); failing = grind (arith, nat_tests) }
-
-  pub passes_all : length sets ≤ i → PassesUpto test sets i → None ≡ first_unmet test sets
-  passes_all past before =
-      let passes = at_drop_all (all_pass test) sets i past in
-      grind (arith, nat_tests)

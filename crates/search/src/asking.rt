@@ -23,6 +23,7 @@ fn is_met<S: Scale>(scale: &S, set: &CutSet, rows: &[u8], levels: &[u8; MOST_PAR
 {
     let members = set.members();
     let mut at = [0; MOST_MEMBERS];
+    // An index, since an `ArrayVec` that is pushed to takes a third longer.
     for (i, member) in members.iter().enumerate() {
         at[i] = levels[*member as usize];
     }

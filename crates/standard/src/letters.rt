@@ -10,6 +10,7 @@ ghost use Rattle.std.proofs.Common.{rules};
 use asil::groups::Asil;
 use dal::options::Dal;
 use either::Either;
+use scale::question::LEVELS;
 use scale::scale::Scale;
 
 pub trait LevelNames: Scale {
@@ -17,7 +18,7 @@ pub trait LevelNames: Scale {
     ghost names: { Self → List Word };
 
     // The names of all five levels, from 0 up.
-    fn level_names(&self) -> [&str; 5]
+    fn level_names(&self) -> [&str; LEVELS]
         ensures { map (λ name. name.now) result ≡ names self.now };
 
     // The name of a level, or none above 4.
@@ -46,7 +47,7 @@ impl LevelNames for Asil {
 
     ghost spelling = { λ s. asil_spelling };
 
-    fn level_names(&self) -> [&str; 5] {
+    fn level_names(&self) -> [&str; LEVELS] {
         ["QM", "A", "B", "C", "D"]
     }
 }
@@ -56,7 +57,7 @@ impl LevelNames for Dal {
 
     ghost spelling = { λ s. dal_spelling };
 
-    fn level_names(&self) -> [&str; 5] {
+    fn level_names(&self) -> [&str; LEVELS] {
         ["E", "D", "C", "B", "A"]
     }
 }
@@ -66,7 +67,7 @@ impl<A: LevelNames, B: LevelNames> LevelNames for Either<A, B> {
 
     ghost spelling = { Prim.search rules };
 
-    fn level_names(&self) -> [&str; 5] {
+    fn level_names(&self) -> [&str; LEVELS] {
         match self {
             Either::Left(a) => a.level_names(),
             Either::Right(b) => b.level_names(),

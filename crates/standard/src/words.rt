@@ -9,7 +9,7 @@ use either::Either;
 
 pub type Standard = Either<Asil, Dal>;
 
-// The scale that a word names, or none.
+// The scale that a word names, or none; a function and no method, since `Either` and the scales are of other crates.
 pub fn standard(word: &[u8]) -> Option<Standard>
     ensures value { result ≡ standard_of word.now }
     ensures inverse { WordsInverse }

@@ -55,11 +55,6 @@ words_of_lack (x ∷ xs) =
       | false ↦ λ e. lacks_onto x (words_of xs) e (words_of_lack xs)
     ]) refl
 
--- two words that lack a byte, joined
-pub lacks_append : (b : ℕ) (v w : Word) → Lacks b v → Lacks b w → Lacks b (v ++ w)
-lacks_append b [] w h k = k
-lacks_append b (x ∷ v) w h k = (h.0, lacks_append b v w h.1 k)
-
 -- the words behind the first byte of a rest, where it has one, as `get` lends them
 pub left_words : (rest : List ℕ) (o : Option (Bor (List ℕ))) → MatchOption o ((length rest < 1) ⊎ (length rest < length rest)) (λ left. (1 ≤ length rest) × (length rest ≤ length rest) × (left.now ≡ slice_range rest 1 (length rest)) × (length left.now + 1 ≡ length rest)) → option_map_or (λ text. words_of text.now) o [] ≡ fields_of rest
 left_words [] None none = refl

@@ -9,7 +9,7 @@ use crate::cut_set::CutSet;
 use crate::members::{all_stand, ascending};
 use crate::parts::part_record;
 use cost::quote::Quote;
-use scale::question::{HIGHEST, MOST_MEMBERS};
+use scale::question::{HIGHEST, LEVELS, MOST_MEMBERS};
 use theory::limits::{MOST_PARTS, MOST_SETS};
 use theory::refusal::Refusal;
 
@@ -28,7 +28,7 @@ fn check_range(floor: u8, ceiling: u8) -> Result<(), Refusal>
 
 impl Draft {
     // Appends a part that is apart from none, and answers its number.
-    pub fn part(&mut self, floor: u8, ceiling: u8, quotes: [Quote; 5]) -> Result<u32, Refusal>
+    pub fn part(&mut self, floor: u8, ceiling: u8, quotes: [Quote; LEVELS]) -> Result<u32, Refusal>
         ensures does { (numbered result, model self.new) ≡ part_call (model self.old) floor ceiling quotes }
         ensures kept { OnErr result (self.new ≡ self.old) }
         ensures history { Brings (model self.old) (part floor ceiling quotes) (model self.new) }
