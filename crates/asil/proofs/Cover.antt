@@ -1,13 +1,14 @@
 -- What can be split by a table whose rows are all the sums up to 4. Assumes nothing.
-use Rattle.std.proofs.Common.{◌≡◌, ℕ, suc, ◌+◌, ◌-◌, ◌<◌, ◌≤◌, min, Bool, true, ◌&&◌, ◌||◌, eqb, List, [], ◌∷◌, ◌++◌, length, Decides, refl, ◌∙◌, inl, inr, ⊎_elim, arith}
-use Rattle.std.specs.List.{AllZip, All, list_all, list_any}
+use Rattle.std.proofs.Common.{◌≡◌, ℕ, suc, ◌+◌, ◌-◌, ◌<◌, ◌≤◌, min, Bool, true, ◌&&◌, ◌||◌, eqb, List, [], ◌∷◌, ◌++◌, length, Decides, refl, ap, ◌∙◌, inl, inr, ⊎_elim, arith}
+use Rattle.std.specs.List.{AllZip, All, Contains, list_all, list_any}
 use Rattle.std.proofs.lemmas.List.Elements.{All-contains}
 use Rattle.std.proofs.lemmas.List.Sums.{AllPass-from_list_all}
+use Rattle.std.proofs.lemmas.List.Folds.{list_any_at}
 use Rattle.std.proofs.lemmas.Map.Views.{Contains-from_any}
-use Rattle.std.proofs.lemmas.Bool.{eqb-true, and_parts, or_cases}
+use Rattle.std.proofs.lemmas.Bool.{eqb-true, eq-eqb, and_parts, and_from, or_cases}
 use Rattle.std.proofs.lemmas.Bool.Decides.{Decides-like}
 use Rattle.asil.specs.Groups.{total, chosen, Group, asil_test}
-use Rattle.scale.specs.Question.{formed}
+use Rattle.scale.specs.Question.{formed, answer}
 use Rattle.scale.proofs.Forms.{formed_parts, answer_decides}
 use Rattle.asil.specs.GroupTests.{asil_decides, taken_some}
 use Rattle.scale.specs.Rows.{all_below}
@@ -83,7 +84,7 @@ module _ (table : List Row) (agrees : CoversBySum table) where
 
   pub met_by_patterns : MetByPatterns table
   met_by_patterns required levels rows =
-      answer_decides (formed required levels rows) (asil_test required levels rows) (group_decides required levels rows)
+      answer_decides (formed required levels rows) (asil_test required levels rows) (answer asil_test required levels rows) (group_decides required levels rows) refl
 
 -- whether two rows are the same, whether the table has a row, and whether it has every sum, as tests that antt computes
 abbrev same_row : Row → Row → Bool
@@ -98,8 +99,25 @@ same_row_is q p e =
     let e2 = eqb-true q.2 p.2 first_two.1 in
     λ i. (e0 i, e1 i, e2 i)
 
+abbrev is_row : ℕ → ℕ → ℕ → Row → Bool
+is_row x a b p = same_row p (x, a, b)
+
+is_row_decides : (x a b : ℕ) (p : Row) → Decides (is_row x a b p) (p ≡ (x, a, b))
+is_row_decides x a b p = (
+  same_row_is p (x, a, b),
+  (λ e. and_from (eqb p.0 x && eqb p.1 a) (eqb p.2 b)
+      (and_from (eqb p.0 x) (eqb p.1 a) (eq-eqb p.0 x (ap (λ (q : Row). q.0) e)) (eq-eqb p.1 a (ap (λ (q : Row). q.1) e)))
+      (eq-eqb p.2 b (ap (λ (q : Row). q.2) e))),
+)
+
 abbrev has_row : List Row → Row → Bool
 has_row rows q = list_any (same_row q) rows
+
+has_row_decides : (x a b : ℕ) (ps : List Row) → Decides (has_row ps (x, a, b)) (Contains ps (x, a, b))
+has_row_decides x a b ps = (
+  Contains-from_any same_row_is (x, a, b) ps,
+  (λ s. list_any_at (same_row (x, a, b)) ps s.0 (x, a, b) s.1 (ap (same_row (x, a, b)) s.2 ∙ (is_row_decides x a b (x, a, b)).1 refl)),
+)
 
 abbrev every_test : List Row → Bool
 every_test rows = all_below (λ x. all_below (λ a. has_row rows (x, a, x - a) || has_row rows (x, x - a, a)) (suc x)) 5
@@ -109,7 +127,7 @@ every_from rows e x a small within =
     let row_of : ℕ → ℕ → Bool = λ x a. has_row rows (x, a, x - a) || has_row rows (x, x - a, a) in
     let outer = all_below_at (λ x. all_below (row_of x) (suc x)) 5 e x (omega arith) in
     let inner = all_below_at (row_of x) (suc x) outer a (omega arith) in
-    ⊎_elim (λ t. inl (Contains-from_any same_row_is (x, a, x - a) rows t)) (λ t. inr (Contains-from_any same_row_is (x, x - a, a) rows t))
+    ⊎_elim (λ t. inl ((has_row_decides x a (x - a) rows).0 t)) (λ t. inr ((has_row_decides x (x - a) a rows).0 t))
     (or_cases (has_row rows (x, a, x - a)) (has_row rows (x, x - a, a)) inner)
 
 abbrev sums_test : List Row → Bool

@@ -1,4 +1,5 @@
 pub mod Apart
 pub mod Views
+pub mod Stored
 pub mod Props
 pub mod Drafts

@@ -2,23 +2,33 @@
 
 ghost use Rattle.std.specs.Prelude.{◌≡◌, ◌≤◌, length};
 
-use arrayvec::ArrayVec;
 use scale::question::MOST_MEMBERS;
 use std::marker::Model;
 
-#[derive(Clone, Drop)]
+#[derive(Clone, Copy)]
 pub struct CutSet {
     required: u8,
-    members: ArrayVec<u32, MOST_MEMBERS>,
+    // How many of the places below are members; the others hold 0.
+    count: usize,
+    members: [u32; MOST_MEMBERS],
 }
 
-// A clause sees the set of the model.
+// A clause sees the set of the model, which says what every place holds, so equal sets are equal in every place.
 impl Model for CutSet {
+    ghost use Rattle.std.specs.Prelude.{take};
     ghost use Rattle.theory.specs.Model.{CutSet as Set};
 
     ghost Value = { Set };
 
-    ghost view = { λ set. record { required = set.required; members = set.members.items } };
+    ghost use Rattle.draft.specs.Stored.{Filled, stored_set, stored_view};
+
+    ghost view = { λ set. record { required = set.required; members = take set.count set.members } };
+
+    ghost invariant = { Filled };
+
+    ghost inverse = { stored_set };
+
+    ghost inverse_ok = { stored_view };
 }
 
 impl CutSet {
@@ -26,13 +36,13 @@ impl CutSet {
         requires { length members.now ≤ MOST_MEMBERS }
         ensures { result ≡ record { required = required; members = members.now } }
     {
-        let mut kept = ArrayVec::new();
-        for member in members {
-            kept.push(*member);
-        }
+        let count = members.len();
+        let mut places = [0; MOST_MEMBERS];
+        places[..count].copy_from_slice(members);
         CutSet {
             required,
-            members: kept,
+            count,
+            members: places,
         }
     }
 
@@ -48,6 +58,6 @@ impl CutSet {
         ensures value { result.now ≡ self.now.members }
         ensures few { length result.now ≤ MOST_MEMBERS }
     {
-        &self.members
+        &self.members[..self.count]
     }
 }

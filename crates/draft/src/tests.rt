@@ -52,7 +52,9 @@ fn sets_and_clearing(rt: HostRuntime) -> Result<(), Fail> {
     assert_eq!(rt; draft.cut(2, &[1]), Ok(1));
     assert_eq!(rt; draft.cut(4, &[1, 0]), Err(Refusal::NotAscending));
     assert_eq!(rt; draft.cut(4, &[7, 0]), Err(Refusal::NoSuchPart));
+    let kept = draft.set_at(0).copied();
     assert_eq!(rt; draft.drop_set(0), Ok(()));
+    assert_eq!(rt; kept.map(|set| set.required()), Some(4));
     assert_eq!(rt; draft.drop_set(1), Err(Refusal::NoSuchSet));
     assert_eq!(rt; draft.set_count(), 1);
     assert_eq!(rt; draft.set_at(0).map(|set| set.required()), Some(2));

@@ -1,14 +1,18 @@
 -- The bits of a row. Assumes nothing.
-use Rattle.std.proofs.Common.{◌≡◌, ℕ, zero, suc, ◌+◌, ◌^◌, ◌<◌, ◌≤◌, min, max, Bool, true, false, not, ◌&&◌, ◌||◌, eqb, ltb, Decides, sym, refl, ap, ◌∙◌, ⊎_elim, one-mul, arith}
+use Rattle.std.proofs.Common.{◌≡◌, ℕ, zero, suc, ◌+◌, ◌^◌, ◌<◌, ◌%◌, ◌≤◌, min, max, Bool, true, false, not, ◌&&◌, ◌||◌, eqb, ltb, ◌⊎◌, List, length, get_or, Decides, sym, refl, ap, ◌∙◌, inl, inr, ⊎_elim, one-mul, arith}
 use lib.Bits.{bit_and, bit_or}
 use Rattle.std.specs.Int.{bit_at}
-use Rattle.std.proofs.lemmas.Bool.{false≢true, both_ways, cases_eq, cases_Bool, eqb-true, eq-eqb, ne_eqb, le-ltb, and_left, and_parts, or_left, or_right, or_cases}
-use Rattle.std.proofs.lemmas.Nat.{pow_pos, pow-add, or_shifted, and_le_l}
+use Rattle.std.proofs.lemmas.List.{get_or_past}
+use Rattle.std.proofs.lemmas.Bool.{false≢true, both_ways, cases_eq, cases_Bool, eqb-true, eq-eqb, ne_eqb, le-ltb, and_left, and_right, and_parts, or_left, or_right, or_cases}
+use Rattle.std.proofs.lemmas.Nat.{pow_pos, pow-add, or_shifted, and_le_l, and_mask}
 use Rattle.std.proofs.lemmas.Nat.Bits.{bit_at-lt, bit_at-zero, bit_at_and, bit_at_or, bit_at-pow_same, bit_at-pow_other, bit_at_ones, bit_at_above, same_from_bits_below}
 use Rattle.std.proofs.lemmas.Bool.Decides.{nat_tests, same_from_decides, Decides-like, Decides-and, Decides-eqb}
-use Rattle.scale.specs.Question.{bit}
+use Rattle.scale.specs.Question.{bit, apart}
 use Rattle.scale.specs.Rows.{row_of, has_all}
 use Rattle.scale.proofs.Below.{all_decides, decides_itself}
+
+pub low_bit : (n : ℕ) → bit_and n 1 ≡ n % 2
+low_bit n = and_mask n 1
 
 one_and : (x y z : ℕ) → x < 2 → y < 2 → z ≡ min x y → eqb z 1 ≡ (eqb x 1 && eqb y 1)
 one_and x y z hx hy e = grind (arith, nat_tests)
@@ -53,6 +57,14 @@ row_below p (suc n) =
     let double : 2 ^ suc n ≡ 2 ^ n + 2 ^ n = omega (arith, pow-add 2 n 1) in
     ⊎_elim (λ (t : p n ≡ true). rw t (omega arith)) (λ (t : p n ≡ false). rw t (omega (arith, pow_pos n))) (cases_Bool (p n))
 
+-- tests that agree below n make one row
+pub row_same : (p q : ℕ → Bool) (n : ℕ) → ((k : ℕ) → k < n → p k ≡ q k) → row_of p n ≡ row_of q n
+row_same p q zero h = refl
+row_same p q (suc n) h =
+    let rest = row_same p q n (λ k less. h k (omega arith)) in
+    let here = h n (omega arith) in
+    rw (rest, here)
+
 -- what passes below n + 1, where n passes, and where it does not
 one_more : (k n : ℕ) (here : Bool) → (k ≡ n → here ≡ true) → (eqb k n || (ltb k n && here)) ≡ (ltb k (suc n) && here)
 one_more k n here top = grind (arith, nat_tests)
@@ -75,14 +87,14 @@ bit_row_of p (suc n) k hn hk =
     (cases_Bool (p n))
 
 -- what `has_all` says, bit by bit
-abbrev HasAll : ℕ → ℕ → Type 0
+abbrev pub HasAll : ℕ → ℕ → Type 0
 HasAll row other = (k : ℕ) → k < 8 → bit other k ≡ true → bit row k ≡ true
 
 implied : (a b : Bool) → Decides (not a || b) (a ≡ true → b ≡ true)
 implied true b = ((λ e _. e), (λ h. h refl))
 implied false b = ((λ _ e. absurd (false≢true e)), (λ _. refl))
 
-has_all_decides : (row other : ℕ) → Decides (has_all row other) (HasAll row other)
+pub has_all_decides : (row other : ℕ) → Decides (has_all row other) (HasAll row other)
 has_all_decides row other =
     all_decides (λ k. not (bit other k) || bit row k) (λ k. bit other k ≡ true → bit row k ≡ true) (λ k. implied (bit other k) (bit row k)) 8
 
@@ -120,3 +132,8 @@ has_all_masked row other hr ho =
     (λ k less. bit_of_and row other k ∙ both_as_second (bit row k) (bit other k) (h k less)))
     (Decides-eqb (bit_and row other) other))
     (has_all_decides row other)
+
+-- a member that has no row is apart from nobody
+pub apart_past : (rows : List ℕ) (i j : ℕ) → (length rows ≤ i) ⊎ (length rows ≤ j) → apart rows i j ≡ false
+apart_past rows i j (inl past) = and_left (bit (get_or rows i 0) j) (bit (get_or rows j 0) i) (ap (λ row. bit row j) (get_or_past rows i 0 past) ∙ ap (λ n. eqb n 1) (bit_at-zero j))
+apart_past rows i j (inr past) = and_right (bit (get_or rows i 0) j) (bit (get_or rows j 0) i) (ap (λ row. bit row i) (get_or_past rows j 0 past) ∙ ap (λ n. eqb n 1) (bit_at-zero i))

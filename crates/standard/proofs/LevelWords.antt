@@ -1,20 +1,9 @@
--- Printing a level and reading a word, as a table of names is looked up. Assumes nothing.
-use Rattle.std.proofs.Common.{◌≡◌, ℕ, zero, suc, ◌+◌, ◌<◌, ◌≤◌, true, false, cond, List, [], ◌∷◌, length, map, Option, Some, None, Bor, ap, refl, sym, ◌∙◌, arith}
-use Rattle.std.specs.Option.{option_map, option_copied, MatchOption}
-use Rattle.std.specs.List.{HoldsAt, slice_get, position_from}
+-- Reading a word, as a table of names is searched. Assumes nothing.
+use Rattle.std.proofs.Common.{◌≡◌, ℕ, suc, ◌+◌, true, false, cond, List, [], ◌∷◌, map, Option, Some, None, Bor, ap, refl, ◌∙◌, arith}
+use Rattle.std.specs.Option.{option_map}
+use Rattle.std.specs.List.{position_from}
 use Rattle.std.specs.Str.{bytes_eq}
-use Rattle.std.proofs.lemmas.Option.{slice_get_past, slice_get-get_or}
-use Rattle.standard.specs.Letters.{Word, printed, read_level}
-
--- what a table has at a place, as its `get` lends it
-pub looked_up : {X : Type 0} (xs : List X) (k : ℕ) (o : Option (Bor X)) → MatchOption o (length xs ≤ k) (λ x. (k < length xs) × HoldsAt (λ y. x.now ≡ y) xs k) → option_copied o ≡ slice_get xs k
-looked_up xs k None past = sym (slice_get_past xs k past)
-looked_up xs k (Some x) here = ap Some (here.1 x.now) ∙ sym (slice_get-get_or xs k x.now here.0)
-
-pub printed_get : (names : List Word) (level : ℕ) → slice_get names level ≡ printed names level
-printed_get [] level = refl
-printed_get (name ∷ names) zero = refl
-printed_get (name ∷ names) (suc level) = printed_get names level
+use Rattle.standard.specs.Letters.{Word, read_level}
 
 counted_on : (i : ℕ) (o : Option ℕ) → option_map (λ k. i + 1 + k) o ≡ option_map (λ k. i + k) (option_map suc o)
 counted_on i None = refl

@@ -25,7 +25,15 @@ pub trait LevelNames: Scale {
     fn name(&self, level: u8) -> Option<&str>
         ensures { option_map (λ x. x.now) result ≡ printed (names self.now) level }
     {
-        self.level_names().get(usize::from(level)).copied()
+        let [first, second, third, fourth, fifth] = self.level_names();
+        match level {
+            0 => Some(first),
+            1 => Some(second),
+            2 => Some(third),
+            3 => Some(fourth),
+            4 => Some(fifth),
+            _ => None,
+        }
     }
 
     // The level that a word names, or none.
@@ -50,6 +58,18 @@ impl LevelNames for Asil {
     fn level_names(&self) -> [&str; LEVELS] {
         ["QM", "A", "B", "C", "D"]
     }
+
+    // By its bytes, since `assess` asks for every word, and a search of the table takes twice the time.
+    fn level(&self, word: &[u8]) -> Option<u8> {
+        match word {
+            b"QM" => Some(0),
+            b"A" => Some(1),
+            b"B" => Some(2),
+            b"C" => Some(3),
+            b"D" => Some(4),
+            _ => None,
+        }
+    }
 }
 
 impl LevelNames for Dal {
@@ -59,6 +79,18 @@ impl LevelNames for Dal {
 
     fn level_names(&self) -> [&str; LEVELS] {
         ["E", "D", "C", "B", "A"]
+    }
+
+    // By its bytes, as that of `Asil`.
+    fn level(&self, word: &[u8]) -> Option<u8> {
+        match word {
+            b"E" => Some(0),
+            b"D" => Some(1),
+            b"C" => Some(2),
+            b"B" => Some(3),
+            b"A" => Some(4),
+            _ => None,
+        }
     }
 }
 
@@ -71,6 +103,20 @@ impl<A: LevelNames, B: LevelNames> LevelNames for Either<A, B> {
         match self {
             Either::Left(a) => a.level_names(),
             Either::Right(b) => b.level_names(),
+        }
+    }
+
+    fn name(&self, level: u8) -> Option<&str> {
+        match self {
+            Either::Left(a) => a.name(level),
+            Either::Right(b) => b.name(level),
+        }
+    }
+
+    fn level(&self, word: &[u8]) -> Option<u8> {
+        match self {
+            Either::Left(a) => a.level(word),
+            Either::Right(b) => b.level(word),
         }
     }
 }

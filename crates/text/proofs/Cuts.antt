@@ -1,10 +1,10 @@
 -- Cutting into words and joining them are inverse to each other. Assumes nothing.
-use Rattle.std.proofs.Common.{◌≡◌, ℕ, ◌+◌, ◌<◌, ◌≤◌, true, false, cond, eqb, List, [], ◌∷◌, ◌++◌, length, Some, None, Option, MatchOption, Bor, sym, refl, ap, ◌∙◌, ◌⊎◌, ⊎_elim, arith}
+use Rattle.std.proofs.Common.{◌≡◌, ℕ, ◌+◌, ◌-◌, ◌<◌, ◌≤◌, true, false, cond, eqb, List, [], ◌∷◌, ◌++◌, length, take, drop, Some, None, Option, MatchOption, Bor, sym, refl, ap, ◌∙◌, ◌⊎◌, ⊎_elim, arith}
 use Rattle.std.specs.Option.{option_map_or}
 use Rattle.std.specs.List.{AllByRecursion, slice_range}
 use Rattle.std.proofs.lemmas.Bool.{eqb-true}
 use Rattle.std.proofs.lemmas.List.{take_rest}
-use Rattle.text.specs.Text.{Word, up_to, on_from, onto, words_of, fields_of, spaced, unwords, Lacks}
+use Rattle.text.specs.Text.{Word, up_to, on_from, past, onto, words_of, fields_of, spaced, unwords, Lacks}
 
 -- the first word, and the fields behind it
 pub words_of_cut : (t : List ℕ) → words_of t ≡ up_to 32 t ∷ fields_of (on_from 32 t)
@@ -54,6 +54,21 @@ words_of_lack (x ∷ xs) =
       | true ↦ λ e. (tt, words_of_lack xs)
       | false ↦ λ e. lacks_onto x (words_of xs) e (words_of_lack xs)
     ]) refl
+
+-- two words that lack a byte, joined
+pub lacks_append : (b : ℕ) (v w : Word) → Lacks b v → Lacks b w → Lacks b (v ++ w)
+lacks_append b [] w h k = k
+lacks_append b (x ∷ v) w h k = (h.0, lacks_append b v w h.1 k)
+
+-- what stands behind the first byte, as a slice pattern has it
+pub past_rest : (t : List ℕ) → 0 < length t → take (length t - 1) (drop 1 t) ≡ past t
+past_rest [] h = absurd (omega arith)
+past_rest (x ∷ xs) h = take_rest (x ∷ xs) 1
+
+-- the fields of a text that has some
+pub fields_cut : (t : List ℕ) → 0 < length t → fields_of t ≡ up_to 32 (past t) ∷ fields_of (on_from 32 (past t))
+fields_cut [] h = absurd (omega arith)
+fields_cut (x ∷ xs) h = words_of_cut xs
 
 -- the words behind the first byte of a rest, where it has one, as `get` lends them
 pub left_words : (rest : List ℕ) (o : Option (Bor (List ℕ))) → MatchOption o ((length rest < 1) ⊎ (length rest < length rest)) (λ left. (1 ≤ length rest) × (length rest ≤ length rest) × (left.now ≡ slice_range rest 1 (length rest)) × (length left.now + 1 ≡ length rest)) → option_map_or (λ text. words_of text.now) o [] ≡ fields_of rest

@@ -15,6 +15,11 @@ abbrev pub on_from : ℕ → List ℕ → List ℕ
 on_from b [] = []
 on_from b (x ∷ xs) = if x == b then x ∷ xs else on_from b xs
 
+-- all but the first byte
+abbrev pub past : List ℕ → List ℕ
+past [] = []
+past (x ∷ xs) = xs
+
 -- a byte put in front of the first word
 abbrev pub onto : ℕ → List Word → List Word
 onto x [] = (x ∷ []) ∷ []

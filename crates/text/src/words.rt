@@ -1,9 +1,10 @@
 // Words between single spaces, taken one after another from the bytes of a line.
 
-ghost use Rattle.std.specs.Prelude.{◌≡◌, ◌≤◌, List, [], length, take, drop};
+ghost use Rattle.std.specs.Prelude.{◌≡◌, ◌<◌, ◌≤◌, List, [], ◌∷◌, length, take, drop, MatchOption};
 ghost use Rattle.std.specs.Option.{option_map_or};
 ghost use Rattle.std.specs.Iterator.{YieldsFirstBy, item_count};
-ghost use Rattle.text.specs.Text.{Word, up_to, on_from, words_of};
+ghost use Rattle.std.specs.Str.{bytes_eq};
+ghost use Rattle.text.specs.Text.{Word, up_to, on_from, past, words_of, fields_of};
 
 use std::marker::Model;
 
@@ -26,6 +27,25 @@ pub fn cut_at(text: &[u8], b: u8) -> (&[u8], &[u8])
     ensures len { length result.1.now ≤ length text.now }
 {
     text.split_at(find(text, b))
+}
+
+// The next word of fields that each begin with a space, and the fields after it; or none where there is no field.
+pub fn next_word(fields: &[u8]) -> Option<(&[u8], &[u8])>
+    ensures cut { MatchOption result (fields.now ≡ []) (λ p. (0 < length fields.now) × (p.0.now ≡ up_to 32 (past fields.now)) × (p.1.now ≡ on_from 32 (past fields.now))) }
+    ensures words { MatchOption result (fields_of fields.now ≡ []) (λ p. fields_of fields.now ≡ p.0.now ∷ fields_of p.1.now) }
+    ensures less { MatchOption result (fields.now ≡ []) (λ p. length p.1.now < length fields.now) }
+{
+    match fields {
+        [] => None,
+        [_, rest @ ..] => Some(cut_at(rest, b' ')),
+    }
+}
+
+// Whether a word is this text.
+pub fn same(word: &[u8], text: &[u8]) -> bool
+    ensures { result ≡ bytes_eq word.now text.now }
+{
+    word == text
 }
 
 // The words of a line, from the front: one more than there are spaces.

@@ -1,4 +1,4 @@
-use Rattle.std.proofs.Common.{rules}
+use Rattle.std.proofs.Common.{refl, rules}
 use Rattle.std.proofs.lemmas.Bool.Decides.{same_from_decides}
 use Rattle.scale.specs.Question.{formed, answer}
 use Rattle.dal.specs.Options.{dal_test}
@@ -12,4 +12,4 @@ returns-clause-answers c =
     let levels = c.args.levels.now in
     let rows = c.args.rows.now in
     same_from_decides c.is_some_and.result (answer dal_test required levels rows) (search rules)
-    (answer_decides (formed required levels rows) (dal_test required levels rows) (λ _. dal_decides levels rows required))
+    (answer_decides (formed required levels rows) (dal_test required levels rows) (answer dal_test required levels rows) (λ _. dal_decides levels rows required) refl)
